@@ -130,6 +130,20 @@ module _ (mode : Mode) (c : Columns) (count : ℕ) (members struck scratch formu
             long = omega (arith, sizes .2, same-scratch);
           }
 
+      -- what `explained` asks, where the list for the literals is cleared
+      pub explained-asks : (size : ℕ) → size ≡ length (c .vars) → length (d .vars) ≡ length (c .vars) → length ms ≡ length members
+          → length cs ≡ length scratch → r .number ≢ 0 → (after : List ℕ) → 128 ≤ length after → after ≡ zeros (length after)
+          → (let w = verdict mode size formula proof in
+          LeftBy w (r .count) (r .lines) (lentOf (d .vars) (d .lows) (d .highs) (d .heads) (d .links) ms cs ss)
+          × (w .number ≢ 0) × (r .number ≡ w .number) × (r .«in_proof» ≡ w .inProof) × (r .place ≡ w .place)
+          × (128 ≤ length after) × (after ≡ zeros (length after)))
+      explained-asks size size-is same-size same-members same-scratch some after long zero =
+          subst (λ (k : ℕ). (let w = verdict mode k formula proof in
+          LeftBy w (r .count) (r .lines) (lentOf (d .vars) (d .lows) (d .highs) (d .heads) (d .links) ms cs ss)
+          × (w .number ≢ 0) × (r .number ≡ w .number) × (r .«in_proof» ≡ w .inProof) × (r .place ≡ w .place)
+          × (128 ≤ length after) × (after ≡ zeros (length after)))) (sym size-is)
+          (left-by same-size same-members same-scratch, (λ z. some (number-is ∙ z)), number-is, in-proof-is, place-is, long, zero)
+
       -- ---- the answer
 
       module _ (words : List ℕ) (long : 128 ≤ length words) where

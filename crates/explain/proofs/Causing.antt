@@ -1,11 +1,11 @@
 -- The cause of a refused command, told over the state made again: what the functions ask, that what they tell is the definition's, and that
 -- the lists are then as the check left them. Assumes nothing.
 use mathlib.Core.Path.{_≡_, refl, sym, ap, ap₂, _∙_, subst}
-use mathlib.Core.Bool.{Bool, true}
+use mathlib.Core.Bool.{Bool, true, false}
 use mathlib.Core.List.{List, _++_}
 use Prim.Native.Nat.{ℕ, _-_, _≤_, _<_}
 use native.Mathlib.Omega.{arith}
-use lib.ListN.{length, take}
+use lib.ListN.{length, take, length-replicate}
 use lib.Seq.{length-take-le}
 use Rattle.meaning.specs.Words.{inWord}
 use Rattle.table.specs.Nodes.{Node}
@@ -27,8 +27,7 @@ use Rattle.verdict.proofs.Standing.{Standing}
 use Rattle.verdict.proofs.Ends.{reached-in, reached-fit, reached-standing}
 use Rattle.state.specs.declared.State.{State}
 use Rattle.state.specs.States.{Lent, lentOf, tableIn, stateOf, Held}
-use Rattle.tries.specs.Commands.{CommandFits, PivotOfFits}
-use Rattle.tries.proofs.Commands.{pivot-fits}
+use Rattle.tries.specs.Commands.{CommandFits}
 use Rattle.session.specs.declared.Checked.{Checked}
 use Rattle.causes.specs.Causes.{cause}
 use Rattle.causes.specs.Explanation.{Ending, ended, causeIn, ending}
@@ -49,6 +48,10 @@ known-fits n (struckOut ls) known = known
 known-fits n (wrong number offset) known = tt
 known-fits n finished known = tt
 
+-- A memo of zeros as long as any table.
+pub zeros-roomy : (n : ℕ) (vars : List ℕ) → length vars ≤ n → Roomy vars (zeros n)
+zeros-roomy n vars most = omega (arith, most, length-replicate {A = ℕ} n 0)
+
 module _ (mode : Mode) (text proof : List ℕ) (l : Lent) (r : Checked)
     (L : LeftBy (verdict mode (length (l .vars)) text proof) (r .count) (r .lines) l)
     (has : hasCause (verdict mode (length (l .vars)) text proof .number) ≡ true)
@@ -60,7 +63,7 @@ module _ (mode : Mode) (text proof : List ℕ) (l : Lent) (r : Checked)
   abbrev v : Verdict
   v = verdict mode s text proof
 
-  A : RefusedAt mode s text proof v
+  abbrev A : RefusedAt mode s text proof v
   A = at-place mode text proof l (r .count) (r .lines) (r .place) L has place-is
 
   abbrev c : Command
@@ -71,9 +74,6 @@ module _ (mode : Mode) (text proof : List ℕ) (l : Lent) (r : Checked)
 
   fits : CommandFits (A .n) c
   fits = known-fits (A .n) c (fit-known (mode .form) (A .n) c (reached-fit mode s text proof (A .reached)))
-
-  has-r : hasCause (r .number) ≡ true
-  has-r = subst (λ (k : ℕ). hasCause k ≡ true) (sym number-is) has
 
   -- The state made again, in the lists l′.
   module _ (l′ : Lent) (b : Again)
@@ -116,17 +116,15 @@ module _ (mode : Mode) (text proof : List ℕ) (l : Lent) (r : Checked)
       -- what `cause` asks
       pub cause-asks : (marks memo fixed : List ℕ) (size : ℕ) → size ≡ s → marks ≡ unmarked size → Roomy (l′ .vars) memo
           → 128 ≤ length fixed → fixed ≡ zeros (length fixed)
-          → Held (b .variables) l′ (b .state) × (marks ≡ unmarked size) × Roomy (l′ .vars) memo × PivotOfFits command
-          × (128 ≤ length fixed) × (fixed ≡ zeros (length fixed)) × (hasCause (r .number) ≡ true)
+          → Held (b .variables) l′ (b .state) × (marks ≡ unmarked size) × Roomy (l′ .vars) memo
+          × (128 ≤ length fixed) × (fixed ≡ zeros (length fixed))
           × RefusedBy (b .variables) size S (r .number) command
       cause-asks marks memo fixed size size-is none room long zero = (
         subst (λ (n : ℕ). Held n l′ (b .state)) (sym (M .variables)) (M .held),
         none,
         room,
-        subst PivotOfFits command-is (pivot-fits (mode .consequence) (A .n) (standing .0) c fits),
         long,
         zero,
-        has-r,
         record {
           profile = mode .consequence;
           said = c;

@@ -3,7 +3,7 @@ use crate::Cause;
 use commands::Command;
 use state::State;
 ghost use mathlib.Core.Path.{_≡_};
-ghost use mathlib.Core.Bool.{Bool, true};
+ghost use mathlib.Core.Bool.{Bool};
 ghost use Prim.Native.Nat.{ℕ, _≤_};
 ghost use lib.ListN.{length};
 ghost use Rattle.table.specs.Indexed.{tableOf};
@@ -14,10 +14,9 @@ ghost use Rattle.commands.specs.Inner.{commandOf};
 ghost use Rattle.profile.specs.Admitted.{admitted};
 ghost use Rattle.verdict.specs.Check.{zeros};
 ghost use Rattle.state.specs.States.{lentOf, stateOf, Held};
-ghost use Rattle.tries.specs.Commands.{CommandFits, PivotOfFits};
+ghost use Rattle.tries.specs.Commands.{CommandFits};
 ghost use Rattle.causes.specs.Causes as causes;
 ghost use Rattle.causes.specs.Answers.{told};
-ghost use Rattle.line_again.specs.Before.{hasCause};
 ghost use Rattle.explain.specs.Stub.{toldBy, RefusedWith, RefusedBy};
 
 pub fn cause(
@@ -42,10 +41,8 @@ pub fn cause(
         Held variables lent st
         × (now marks ≡ unmarked (length (now vars)))
         × Roomy (now vars) (now memo)
-        × PivotOfFits command
         × (128 ≤ length (now fixed))
         × (now fixed ≡ zeros (length (now fixed)))
-        × (hasCause number ≡ true)
         × RefusedBy variables (length (now vars)) (stateOf lent st) number command) ⌝ }
     ensures { λ r. ⌜ (
         let lent = lentOf (now (vars .entry)) (now (lows .entry)) (now (highs .entry)) (now (heads .entry)) (now (links .entry))

@@ -1,0 +1,152 @@
+-- `cause_over`: the state made again, the command read again, its cause; then nodes dropped and scratch cleared. Assumes nothing.
+use mathlib.Core.Path.{_≡_, sym, ap, _∙_}
+use mathlib.Core.List.{List}
+use Prim.Native.Nat.{ℕ}
+use native.Mathlib.Omega.{arith}
+use lib.ListN.{length}
+use borrow.Author.Needs.{needs}
+use Rattle.table.specs.Indexed.{Table, tableOf}
+use Rattle.table.specs.Columns.{Columns, columnsMade}
+use Rattle.conflict.specs.Marks.{unmarked}
+use Rattle.verdict.specs.Check.{zeros}
+use Rattle.state.specs.States.{Lent, lentOf}
+use Rattle.explain.specs.Stub.{toldBy}
+use Rattle.explain.proofs.Causing.{command-asks, cause-asks, cause-told, drop-asks, dropped-columns, lists-back}
+use Rattle.explain.proofs.call.cause_over.Statement.{statement}
+use Rattle.explain.proofs.call.cause_over.Tie as tie
+
+module _ (s : tie.Start) where
+  abbrev lent : Lent
+  lent = let a = s .args in lentOf (a .vars .now) (a .lows .now) (a .highs .now) (a .heads .now) (a .links .now) (a .members .now)
+      (a .scratch .now) (a .struck .now)
+
+-- the state made again
+module _ (a : tie.After-state-again) where
+  abbrev start : tie.Start
+  start = a .before .before .before .before .before .before .before .before .before .before .before .before .before .before .before .before .before .before .before .before .before .before .before .before
+
+  abbrev made : Lent
+  made = let p = a .state-again .last in lentOf (p .0) (p .1 .0) (p .1 .1 .0) (p .1 .1 .1 .0) (p .1 .1 .1 .1 .0) (p .1 .1 .1 .1 .1 .1 .1 .0) (p .1 .1 .1 .1 .1 .1 .1 .1 .0) (p .1 .1 .1 .1 .1 .1 .1 .1 .1 .0)
+
+  same-size : length (made .vars) ≡ length (lent start .vars)
+  same-size = a .state-again .kept .0
+
+-- the cause told
+module _ (c : tie.After-cause) where
+  abbrev made-at : tie.After-state-again
+  made-at = c .before .before .before .before .before .before .before .before .before .before .before .before .before .before .before .before .before .before .before .before .before .before .before .before .before .before .before .before .before .before .before .before .before .before
+
+  abbrev table₁ : Table
+  table₁ = let p = c .cause .last in tableOf (p .0) (p .1 .0) (p .1 .1 .0) (p .1 .1 .1 .0) (p .1 .1 .1 .1 .0) (made-at .state-again .result .state .count)
+
+state-again-requires : tie.Need-state-again-requires
+state-again-requires c κs =
+    let s = (c .before .before .before .before .before .before .before .before .before .before .before .before .before .before .before .before .before .before .before .before .before .before .before) in (s .pre .0, s .pre .1, s .pre .3, s .pre .4, s .pre .5)
+
+command-in-requires : tie.Need-command-in-requires
+command-in-requires c κs =
+    let a = (c .before .before .before .before .before .before .before .before .before .before .before .before .before .before .before .before .before .before .before .before .before) in
+    let s = start a in
+    command-asks (s .args .mode) (s .args .formula .now) (s .args .proof .now) (lent s) (s .args .checked) (s .pre .0) (s .pre .1) (s .pre .2) (s .pre .3) (made a) (a .state-again .result) (a .state-again .ensures .0)
+
+cause-requires : tie.Need-cause-requires
+cause-requires c κs =
+    let a = (c .before .before .before .before .before .before .before .before .before .before .before .before .before .before .before .before .before .before .before .before .before .before .before .before .before .before .before .before .before .before .before .before .before) in
+    let s = start a in
+    let k = (c .before .before .before .before .before .before .before .before .before .before .before) in
+    cause-asks (s .args .mode) (s .args .formula .now) (s .args .proof .now) (lent s) (s .args .checked) (s .pre .0) (s .pre .1) (s .pre .2) (s .pre .3) (made a) (a .state-again .result) (a .state-again .ensures .0) (k .command-in .result) (k .command-in .ensures) (a .state-again .last .1 .1 .1 .1 .1 .1 .0) (a .state-again .last .1 .1 .1 .1 .1 .0) (s .args .fixed .now) (length (made a .vars)) (same-size a)
+    (a .state-again .ensures .1 ∙ ap unmarked (sym (same-size a)))
+    (omega (arith, s .pre .5, a .state-again .kept .0, a .state-again .kept .1 .1 .1 .1 .1 .0)) (s .pre .6) (s .pre .7)
+
+drop-to-requires : tie.Need-drop-to-requires
+drop-to-requires c κs =
+    let x = (c .before .before .before .before .before .before .before .before .before .before .before .before .before .before .before .before .before .before .before .before .before .before .before) in
+    let a = made-at x in
+    let s = start a in
+    drop-asks (s .args .mode) (s .args .formula .now) (s .args .proof .now) (lent s) (s .args .checked) (s .pre .0) (s .pre .1) (s .pre .2) (s .pre .3) (made a) (a .state-again .result) (a .state-again .ensures .0) (table₁ x) (x .cause .ensures .1 .0)
+
+clear-numbers-requires : tie.Need-clear-numbers-requires
+clear-numbers-requires c κs =
+    search needs
+
+same-length : tie.Need-same-length
+same-length c =
+    (c .before .before .before .before .before .before .before .before .before .before .before .before .before .before) .drop-to .kept .0 ∙ (c .before .before .before .before .before .before .before .before .before .before .before .before .before .before .before .before .before .before .before .before .before .before .before .before .before .before .before .before .before .before .before .before .before .before .before .before .before .before) .cause .kept .0 ∙ (c .before .before .before .before .before .before .before .before .before .before .before .before .before .before .before .before .before .before .before .before .before .before .before .before .before .before .before .before .before .before .before .before .before .before .before .before .before .before .before .before .before .before .before .before .before .before .before .before .before .before .before .before .before .before .before .before .before .before .before .before .before .before .before .before .before .before .before .before .before .before .before .before) .state-again .kept .0
+
+same-length-2 : tie.Need-same-length-2
+same-length-2 c =
+    (c .before .before .before .before .before .before .before .before .before .before .before .before .before .before) .drop-to .kept .1 .0 ∙ (c .before .before .before .before .before .before .before .before .before .before .before .before .before .before .before .before .before .before .before .before .before .before .before .before .before .before .before .before .before .before .before .before .before .before .before .before .before .before) .cause .kept .1 .0 ∙ (c .before .before .before .before .before .before .before .before .before .before .before .before .before .before .before .before .before .before .before .before .before .before .before .before .before .before .before .before .before .before .before .before .before .before .before .before .before .before .before .before .before .before .before .before .before .before .before .before .before .before .before .before .before .before .before .before .before .before .before .before .before .before .before .before .before .before .before .before .before .before .before .before) .state-again .kept .1 .0
+
+same-length-3 : tie.Need-same-length-3
+same-length-3 c =
+    (c .before .before .before .before .before .before .before .before .before .before .before .before .before .before) .drop-to .kept .1 .1 .0 ∙ (c .before .before .before .before .before .before .before .before .before .before .before .before .before .before .before .before .before .before .before .before .before .before .before .before .before .before .before .before .before .before .before .before .before .before .before .before .before .before) .cause .kept .1 .1 .0 ∙ (c .before .before .before .before .before .before .before .before .before .before .before .before .before .before .before .before .before .before .before .before .before .before .before .before .before .before .before .before .before .before .before .before .before .before .before .before .before .before .before .before .before .before .before .before .before .before .before .before .before .before .before .before .before .before .before .before .before .before .before .before .before .before .before .before .before .before .before .before .before .before .before .before) .state-again .kept .1 .1 .0
+
+same-length-4 : tie.Need-same-length-4
+same-length-4 c =
+    (c .before .before .before .before .before .before .before .before .before .before .before .before .before .before) .drop-to .kept .1 .1 .1 .0 ∙ (c .before .before .before .before .before .before .before .before .before .before .before .before .before .before .before .before .before .before .before .before .before .before .before .before .before .before .before .before .before .before .before .before .before .before .before .before .before .before) .cause .kept .1 .1 .1 .0 ∙ (c .before .before .before .before .before .before .before .before .before .before .before .before .before .before .before .before .before .before .before .before .before .before .before .before .before .before .before .before .before .before .before .before .before .before .before .before .before .before .before .before .before .before .before .before .before .before .before .before .before .before .before .before .before .before .before .before .before .before .before .before .before .before .before .before .before .before .before .before .before .before .before .before) .state-again .kept .1 .1 .1 .0
+
+same-length-5 : tie.Need-same-length-5
+same-length-5 c =
+    (c .before .before .before .before .before .before .before .before .before .before .before .before .before .before) .drop-to .kept .1 .1 .1 .1 .0 ∙ (c .before .before .before .before .before .before .before .before .before .before .before .before .before .before .before .before .before .before .before .before .before .before .before .before .before .before .before .before .before .before .before .before .before .before .before .before .before .before) .cause .kept .1 .1 .1 .1 .0 ∙ (c .before .before .before .before .before .before .before .before .before .before .before .before .before .before .before .before .before .before .before .before .before .before .before .before .before .before .before .before .before .before .before .before .before .before .before .before .before .before .before .before .before .before .before .before .before .before .before .before .before .before .before .before .before .before .before .before .before .before .before .before .before .before .before .before .before .before .before .before .before .before .before .before) .state-again .kept .1 .1 .1 .1 .0
+
+same-length-6 : tie.Need-same-length-6
+same-length-6 c =
+    (c .before .before .before .before .before .before .before .before .before .before .before .before .before .before .before .before .before .before .before .before .before .before .before .before .before .before .before .before .before .before .before .before .before .before .before .before .before .before) .cause .kept .1 .1 .1 .1 .1 .0 ∙ (c .before .before .before .before .before .before .before .before .before .before .before .before .before .before .before .before .before .before .before .before .before .before .before .before .before .before .before .before .before .before .before .before .before .before .before .before .before .before .before .before .before .before .before .before .before .before .before .before .before .before .before .before .before .before .before .before .before .before .before .before .before .before .before .before .before .before .before .before .before .before .before .before) .state-again .kept .1 .1 .1 .1 .1 .0
+
+same-length-7 : tie.Need-same-length-7
+same-length-7 c =
+    (c .before .before .before .before .before .before .before .before .before .before .before .before .before .before .before .before .before .before .before .before .before .before .before .before .before .before .before .before .before .before .before .before .before .before .before .before .before .before) .cause .kept .1 .1 .1 .1 .1 .1 .0 ∙ (c .before .before .before .before .before .before .before .before .before .before .before .before .before .before .before .before .before .before .before .before .before .before .before .before .before .before .before .before .before .before .before .before .before .before .before .before .before .before .before .before .before .before .before .before .before .before .before .before .before .before .before .before .before .before .before .before .before .before .before .before .before .before .before .before .before .before .before .before .before .before .before .before) .state-again .kept .1 .1 .1 .1 .1 .1 .0
+
+same-length-8 : tie.Need-same-length-8
+same-length-8 c =
+    (c .before .before .before .before .before .before .before .before .before .before .before .before .before .before .before .before .before .before .before .before .before .before .before .before .before .before .before .before .before .before .before .before .before .before .before .before .before .before .before .before .before .before .before .before .before .before .before .before .before .before .before .before .before .before .before .before .before .before .before .before .before .before .before .before .before .before .before .before .before .before .before .before) .state-again .kept .1 .1 .1 .1 .1 .1 .1 .0
+
+same-length-9 : tie.Need-same-length-9
+same-length-9 c =
+    (c .before .before) .clear-numbers .kept .0 ∙ (c .before .before .before .before .before .before .before .before .before .before .before .before .before .before .before .before .before .before .before .before .before .before .before .before .before .before .before .before .before .before .before .before .before .before .before .before .before .before) .cause .kept .1 .1 .1 .1 .1 .1 .1 .1 .0 ∙ (c .before .before .before .before .before .before .before .before .before .before .before .before .before .before .before .before .before .before .before .before .before .before .before .before .before .before .before .before .before .before .before .before .before .before .before .before .before .before .before .before .before .before .before .before .before .before .before .before .before .before .before .before .before .before .before .before .before .before .before .before .before .before .before .before .before .before .before .before .before .before .before .before) .state-again .kept .1 .1 .1 .1 .1 .1 .1 .1 .0
+
+same-length-10 : tie.Need-same-length-10
+same-length-10 c =
+    (c .before .before .before .before .before .before .before .before .before .before .before .before .before .before .before .before .before .before .before .before .before .before .before .before .before .before .before .before .before .before .before .before .before .before .before .before .before .before .before .before .before .before .before .before .before .before .before .before .before .before .before .before .before .before .before .before .before .before .before .before .before .before .before .before .before .before .before .before .before .before .before .before) .state-again .kept .1 .1 .1 .1 .1 .1 .1 .1 .1 .0
+
+same-length-11 : tie.Need-same-length-11
+same-length-11 c =
+    (c .before .before .before .before .before .before .before .before .before .before .before .before .before .before .before .before .before .before .before .before .before .before .before .before .before .before .before .before .before .before .before .before .before .before .before .before .before .before) .cause .kept .1 .1 .1 .1 .1 .1 .1 .1 .1 .1 .0
+
+returns : tie.Need-returns
+returns c =
+    let x = (c .before .before .before .before .before .before .before .before .before .before .before .before .before .before .before .before .before .before .before .before .before .before .before .before .before .before .before .before .before .before .before .before .before .before .before .before .before .before) in
+    let a = made-at x in
+    let s = start a in
+    let k = (c .before .before .before .before .before .before .before .before .before .before .before .before .before .before .before .before .before .before .before .before .before .before .before .before .before .before .before .before .before .before .before .before .before .before .before .before .before .before .before .before .before .before .before .before .before .before .before .before .before .before) in
+    let d = (c .before .before .before .before .before .before .before .before .before .before .before .before .before .before) in
+    let p = d .drop-to .last in (
+      cause-told (s .args .mode) (s .args .formula .now) (s .args .proof .now) (lent s) (s .args .checked) (s .pre .0) (s .pre .1) (s .pre .2) (s .pre .3) (made a) (a .state-again .result) (a .state-again .ensures .0) (k .command-in .result) (k .command-in .ensures) (length (made a .vars)) (length (s .args .fixed .now)) (same-size a)
+          (toldBy (x .cause .result) (x .cause .last .1 .1 .1 .1 .1 .1 .1 .1 .1 .1 .0)) (x .cause .ensures .0),
+      lists-back (s .args .mode) (s .args .formula .now) (s .args .proof .now) (lent s) (s .args .checked) (s .pre .0) (s .pre .1) (s .pre .2) (s .pre .3) (made a) (a .state-again .result) (a .state-again .ensures .0) (columnsMade (p .0) (p .1 .0) (p .1 .1 .0) (p .1 .1 .1 .0) (p .1 .1 .1 .1 .0)) ((c .before .before) .clear-numbers .last .0)
+          (dropped-columns (s .args .mode) (s .args .formula .now) (s .args .proof .now) (lent s) (s .args .checked) (s .pre .0) (s .pre .1) (s .pre .2) (s .pre .3) (made a) (a .state-again .result) (a .state-again .ensures .0) (table₁ x) (x .cause .ensures .1 .0) (tableOf (p .0) (p .1 .0) (p .1 .1 .0) (p .1 .1 .1 .0) (p .1 .1 .1 .1 .0) (s .args .checked .count)) _
+          (x .cause .kept .0 ∙ same-size a) (d .drop-to .ensures))
+          ((c .before .before) .clear-numbers .ensures ∙ ap zeros (x .cause .kept .1 .1 .1 .1 .1 .1 .1 .1 .0 ∙ a .state-again .kept .1 .1 .1 .1 .1 .1 .1 .1 .0)),
+    )
+
+pub cause-over-spec : {M : Type 1} → statement M
+cause-over-spec =
+    tie.close
+    (tie.spec
+    state-again-requires
+    command-in-requires
+    cause-requires
+    drop-to-requires
+    clear-numbers-requires
+    same-length
+    same-length-2
+    same-length-3
+    same-length-4
+    same-length-5
+    same-length-6
+    same-length-7
+    same-length-8
+    same-length-9
+    same-length-10
+    same-length-11
+    returns)

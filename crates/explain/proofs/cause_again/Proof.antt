@@ -1,1 +1,0 @@
--- cause_again
