@@ -48,9 +48,9 @@ known-fits n (struckOut ls) known = known
 known-fits n (wrong number offset) known = tt
 known-fits n finished known = tt
 
--- A memo of zeros as long as any table.
-pub zeros-roomy : (n : ℕ) (vars : List ℕ) → length vars ≤ n → Roomy vars (zeros n)
-zeros-roomy n vars most = omega (arith, most, length-replicate {A = ℕ} n 0)
+-- A memo of zeros with cells for any table.
+pub zeros-roomy : (n : ℕ) (vars : List ℕ) → length vars ≤ 65536 → 65600 ≤ n → Roomy vars (zeros n)
+zeros-roomy n vars most cells = omega (arith, most, cells, length-replicate {A = ℕ} n 0)
 
 module _ (mode : Mode) (text proof : List ℕ) (l : Lent) (r : Checked)
     (L : LeftBy (verdict mode (length (l .vars)) text proof) (r .count) (r .lines) l)

@@ -24,6 +24,9 @@ ghost use Rattle.line_again.specs.Made.{LeftBy};
 ghost use Rattle.explain.specs.Stub.{toldBy};
 ghost use Rattle.explain.specs.Why.{whyOutcome, explainedIn, noCause, whyNothing, whyOf};
 
+// The memo's cells: those that a table of 65,536 places needs.
+const CELLS: usize = 65600;
+
 // Whether the cause of a number is told beside it.
 fn has_cause(number: u8) -> bool
     ensures { λ r. ⌜ r ≡ hasCause number ⌝ }
@@ -233,7 +236,7 @@ fn cause_again<'a>(
         (now (members .exit)) (now (scratch .exit)) (now (struck .exit)) in
         returned ≡ lent) ⌝ }
 {
-    let mut memo = [0u64; 65536];
+    let mut memo = [0u64; CELLS];
     let mut marks = [0u8; 65536];
     let places = vars.len();
     cause_over(

@@ -9,7 +9,7 @@ use Rattle.explain.proofs.call.cause_again.Tie as tie
 
 slice-aggregate-cause-over : tie.Need-slice-aggregate-cause-over
 slice-aggregate-cause-over c =
-    length-whole 65536
+    length-whole 65600
 
 array-borrow-prefix-marks : tie.Need-array-borrow-prefix-marks
 array-borrow-prefix-marks c =
@@ -27,7 +27,7 @@ cause-over-requires c κs =
       s .pre .2,
       s .pre .3,
       part-zeros (length (s .args .vars .now)) 65536 (s .pre .0 .most),
-      zeros-roomy 65536 (s .args .vars .now) (s .pre .0 .most),
+      zeros-roomy 65600 (s .args .vars .now) (s .pre .0 .most) (omega arith),
       s .pre .4,
       s .pre .5,
     )
