@@ -1,5 +1,6 @@
 // Why a check refuses: its number, the offending piece and the true cause. (02, 8/14)
 pub mod call;
+mod linked;
 mod stub;
 
 pub struct Cause {

@@ -1,0 +1,4 @@
+pub mod Turns
+pub mod Made
+pub mod Tried
+pub mod Told
