@@ -39,7 +39,7 @@ use Rattle.line_again.specs.Made.{LeftBy, MadeAgain}
 use Rattle.line_again.proofs.Twice.{cause-same}
 use Rattle.line_again.proofs.Refusals.{RefusedAt, stops-again, spends-again}
 use Rattle.line_again.proofs.Making.{at-place, kept-is}
-use Rattle.explain.specs.Stub.{RefusedWith, RefusedBy}
+use Rattle.command_causes.specs.Causes.{RefusedWith, RefusedBy}
 
 known-fits : (n : ℕ) (c : Command) → Known n c → CommandFits n c
 known-fits n (recorded r more) known = tt

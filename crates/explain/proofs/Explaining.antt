@@ -20,8 +20,8 @@ use Rattle.causes.proofs.Causes.{cause-plain}
 use Rattle.causes.proofs.Pieces.{piece-inside}
 use Rattle.pieces.specs.Shown.{pieceEnd}
 use Rattle.line_again.specs.Before.{hasCause}
-use Rattle.explain.specs.declared.Cause as code
-use Rattle.explain.specs.Stub.{toldBy}
+use Rattle.command_causes.specs.declared.Cause as code
+use Rattle.command_causes.specs.Causes.{toldBy}
 use Rattle.explain.specs.Why.{whyOutcome, explainedIn, noCause, whyOf}
 
 -- nothing told beside the number

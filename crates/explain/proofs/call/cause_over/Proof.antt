@@ -8,7 +8,7 @@ use Rattle.table.specs.Columns.{columnsMade}
 use Rattle.conflict.specs.Marks.{unmarked}
 use Rattle.verdict.specs.Check.{zeros}
 use Rattle.state.specs.States.{Lent, lentOf}
-use Rattle.explain.specs.Stub.{toldBy}
+use Rattle.command_causes.specs.Causes.{toldBy}
 use Rattle.explain.proofs.Causing.{command-asks, cause-asks, cause-told, drop-asks, dropped-columns, lists-back}
 use Rattle.explain.proofs.call.cause_over.Statement.{statement}
 use Rattle.explain.proofs.call.cause_over.Tie as tie

@@ -8,7 +8,7 @@ use borrow.Author.Tests.{not-true, not-false}
 use Rattle.table.specs.Columns.{columnsMade}
 use Rattle.state.specs.States.{Lent}
 use Rattle.line_again.specs.Before.{hasCause}
-use Rattle.explain.specs.declared.Cause.{Cause}
+use Rattle.command_causes.specs.declared.Cause.{Cause}
 use Rattle.explain.specs.Why.{whyOutcome, whyOf}
 use Rattle.explain.proofs.Explaining.{piece-asks, explained-so, explained-plain}
 use Rattle.explain.proofs.call.explained.Statement.{statement}
