@@ -11,7 +11,7 @@ use Rattle.meaning.specs.Diagram.{Diagram}
 use Rattle.meaning.specs.Rules.{conflicts, firstWithUnit, byUnits, Propagation, round, still, taking, propagate, unitProp}
 use Rattle.meaning.proofs.Booleans.{t≢f}
 use Rattle.meaning.proofs.Ends.{AllReduced, more-rounds}
-use Rattle.verdict.specs.Cases.{unitsTo}
+use Rattle.meaning.specs.Rules.{unitsTo}
 use Rattle.causes.specs.Causes.{takingFixes, fixesWithin, fixes}
 use Rattle.causes.specs.Shows.{Fixed, rests, goes-on}
 

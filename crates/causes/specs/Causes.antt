@@ -22,7 +22,7 @@ use Rattle.clausal.specs.Tries.{makesTrue, makesFalse, witness}
 use Rattle.paths.specs.Paths.{paths, byPath}
 use Rattle.commands.specs.Commands.{Command, recorded, added, struckOut, wrong, finished}
 use Rattle.verdict.specs.Steps.{State, entryNode, diagramIn, unstruck, liveMembers, isLive}
-use Rattle.verdict.specs.Cases.{unitsTo}
+use Rattle.meaning.specs.Rules.{unitsTo}
 
 -- The number alone tells the cause; two variables; an assignment; the literals fixed, a list a round, and the number of the member that was
 -- not shown.

@@ -25,7 +25,7 @@ use Rattle.verdict.specs.Steps.{State, stop, spent, entryNode, diagramIn, liveM
 use Rattle.verdict.specs.Check.{step, Verdict, left, refusedFormula}
 use Rattle.verdict.specs.Taken.{Meant}
 use Rattle.verdict.specs.Run.{commandIn, Reached}
-use Rattle.verdict.specs.Cases.{unitsTo}
+use Rattle.meaning.specs.Rules.{unitsTo}
 use Rattle.causes.specs.Parts.{Part}
 use Rattle.causes.specs.Causes.{Cause, variables, assignment, fixed, turnMembers}
 use Rattle.causes.specs.Explanation.{Ending, unread, ended}

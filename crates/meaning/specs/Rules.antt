@@ -5,7 +5,7 @@ use mathlib.Core.List.{List, [], _∷_, _++_, map}
 use mathlib.Core.Option.{Option, none, some}
 use Prim.Native.Nat.{ℕ, zero, suc, _+_}
 use Rattle.meaning.specs.Diagram.{Diagram, leaf, same}
-use Rattle.meaning.specs.Operations.{negation, cofactorLiterals, cofactor, isUnit}
+use Rattle.meaning.specs.Operations.{Literal, negation, cofactorLiterals, cofactor, isUnit}
 
 unfoldable pub any : (Diagram → Bool) → List Diagram → Bool
 any p [] = false
@@ -21,6 +21,15 @@ unfoldable pub hasUnit : ℕ → ℕ → Diagram → Bool
 unfolding isUnit
 hasUnit n zero f = false
 hasUnit n (suc v) f = (isUnit n f (suc v) true || isUnit n f (suc v) false) || hasUnit n v f
+
+-- The literals of U(f) of the variables 1 to v, by variable.
+unfoldable pub unitsTo : ℕ → ℕ → Diagram → List Literal
+unfolding isUnit
+unitsTo n zero f = []
+unitsTo n (suc v) f =
+    let yes : Literal = record { variable = suc v; positive = true } in
+    let no : Literal = record { variable = suc v; positive = false } in
+    unitsTo n v f ++ (cond (isUnit n f (suc v) true) (yes ∷ []) [] ++ cond (isUnit n f (suc v) false) (no ∷ []) [])
 
 -- "(b) else, if some U is not empty, take the member of lowest place"
 unfoldable pub firstWithUnit : ℕ → List Diagram → Option Diagram

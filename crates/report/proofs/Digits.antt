@@ -1,7 +1,6 @@
 -- Decimal digits: a number below 10 is one digit, any other is the digits of its tenth and one more; a 64-bit number has at most 20.
 -- The definition's steps do not matter once they are enough (`decimal-steps`). Assumes nothing.
-use mathlib.Core.Path.{_≡_, refl, sym, ap, _∙_}
-use mathlib.Core.Bool.{Bool, true, false}
+use mathlib.Core.Path.{_≡_, sym, ap, _∙_}
 use mathlib.Core.List.{List, [], _∷_, _++_}
 use Prim.Native.Nat.{ℕ, zero, suc, _+_, _*_, _/_, _%_, _^_, _≤_, _<_}
 use native.Mathlib.Omega.{arith}

@@ -20,7 +20,8 @@ use Rattle.commands.specs.declared.Mode.{Mode}
 use Rattle.commands.specs.Commands.{inRecords}
 use Rattle.verdict.specs.Check.{verdict}
 use Rattle.dimacs.specs.Texts.{bytes}
-use Rattle.verdict.specs.Cases.{unitsTo, A-formula, A-proof}
+use Rattle.meaning.specs.Rules.{unitsTo}
+use Rattle.verdict.specs.Cases.{A-formula, A-proof}
 use Rattle.verdict.specs.Satisfies.{clausesOf, readToEnd, satisfies}
 use Rattle.report.specs.declared.Line.{Line}
 use Rattle.report.specs.Line.{decimalBy, decimal, fieldText, lineBytes, numbersAfter, numbersOf}

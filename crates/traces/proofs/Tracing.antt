@@ -31,7 +31,7 @@ use Rattle.unit_search.specs.Units.{UnitsTaken}
 use Rattle.propagate.specs.Rounds.{roundsLeft}
 use Rattle.propagate.proofs.Rounds.{Going, going-first, going-ready, going-ends, going-full, going-on, ends-conflict, ends-last, ends-still}
 use Rattle.verdict.specs.Check.{zeros}
-use Rattle.verdict.specs.Cases.{unitsTo}
+use Rattle.meaning.specs.Rules.{unitsTo}
 use Rattle.causes.specs.Causes.{takingFixes, fixesWithin, fixes}
 use Rattle.causes.specs.Answers.{trueWord, falseWord, fixedWords}
 use Rattle.traces.specs.Traced.{TraceSays}

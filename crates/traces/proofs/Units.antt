@@ -13,7 +13,7 @@ use Rattle.meaning.specs.Operations.{Literal, isUnit}
 use Rattle.meaning.specs.Words.{inWord}
 use Rattle.meaning.proofs.Booleans.{eqb-eq, and-false}
 use Rattle.clausal.specs.Literals.{alike, has, literal}
-use Rattle.verdict.specs.Cases.{unitsTo}
+use Rattle.meaning.specs.Rules.{unitsTo}
 use Rattle.causes.specs.Answers.{wordFrom}
 
 -- ---- words

@@ -19,7 +19,8 @@ use Rattle.records.specs.Records.{recordAt}
 use Rattle.commands.specs.Commands.{inRecords}
 use Rattle.verdict.specs.Check.{verdict, CheckOutcome, outcome, check}
 use Rattle.dimacs.specs.Texts.{bytes}
-use Rattle.verdict.specs.Cases.{GivesAll, caseTable, numberTable, waitingTable, strikeTable, setTable, unitsTo, over, A-formula}
+use Rattle.meaning.specs.Rules.{unitsTo}
+use Rattle.verdict.specs.Cases.{GivesAll, caseTable, numberTable, waitingTable, strikeTable, setTable, over, A-formula}
 use Rattle.verdict.specs.Cases.{A-proof}
 
 -- "A to J form one table, and one theorem says that the rules give each row." (01, Conditions of acceptance)

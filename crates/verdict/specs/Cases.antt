@@ -1,16 +1,17 @@
 -- 01's cases A to J as one table, and the examples of its table of numbers as another. (01, The program and its line; What the call says
 -- and leaves) No call open to others cites this file.
 use mathlib.Core.Path.{_≡_}
-use mathlib.Core.Bool.{true, false, cond}
-use mathlib.Core.List.{List, [] as []ᴸ, _∷_ as _∷ᴸ_, _++_ as _++ᴸ_}
-use Prim.Native.Nat.{ℕ, zero, suc}
+use mathlib.Core.Bool.{true, false}
+use mathlib.Core.List.{List, [] as []ᴸ, _∷_ as _∷ᴸ_}
+use Prim.Native.Nat.{ℕ}
 use Prim.Native.String.{String}
 use Rattle.meaning.specs.Diagram.{Diagram, leaf, node}
-use Rattle.meaning.specs.Operations.{Literal, clause, conjunction, cofactor, isUnit}
+use Rattle.meaning.specs.Operations.{Literal, clause, conjunction, cofactor}
+use Rattle.meaning.specs.Rules.{unitsTo}
 use Rattle.commands.specs.declared.Form.{Form}
 use Rattle.commands.specs.Commands.{inForm, inRecords, inText, inBinary}
 use Rattle.verdict.specs.Check.{Verdict, verdict}
-use Rattle.dimacs.specs.Texts.{bytes, plus, minus}
+use Rattle.dimacs.specs.Texts.{bytes, plus}
 
 -- ---- rows
 
@@ -38,14 +39,6 @@ pub data Row : Type 0 where
 
 abbrev pub printed : Verdict → Printed
 printed v = prints (v .number) (v .place) (v .lines) (v .rounds) (v .peak)
-
--- The literals of U(f) of the variables 1 to v.
-unfoldable pub unitsTo : ℕ → ℕ → Diagram → List Literal
-unfolding isUnit
-unitsTo n zero f = []ᴸ
-unitsTo n (suc v) f =
-    unitsTo n v f
-    ++ᴸ (cond (isUnit n f (suc v) true) (plus (suc v) ∷ᴸ []ᴸ) []ᴸ ++ᴸ cond (isUnit n f (suc v) false) (minus (suc v) ∷ᴸ []ᴸ) []ᴸ)
 
 -- The rules give the row.
 abbrev pub Gives : Row → Type 0

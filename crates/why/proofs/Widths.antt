@@ -15,7 +15,7 @@ use Rattle.meaning.proofs.Booleans.{t≢f, or-neither}
 use Rattle.meaning.proofs.PointwiseSteps.{negation-width, literals-cong, literals-width}
 use Rattle.meaning.proofs.Units.{eq-same, isUnit-width, isUnit-beyond}
 use Rattle.meaning.proofs.Ends.{AllReduced, byUnits-reduced, first-taken, more-rounds}
-use Rattle.verdict.specs.Cases.{unitsTo}
+use Rattle.meaning.specs.Rules.{unitsTo}
 use Rattle.causes.specs.Causes.{takingFixes, fixesWithin, fixes}
 
 -- ---- more rounds
