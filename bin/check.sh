@@ -3,16 +3,18 @@
 . "$(dirname "$(readlink -f "${BASH_SOURCE[0]}")")/common.sh"
 
 usage() {
-    local options='[-q] [-s] [--consequence | --twice]' proof="records" binary= twice="
+    local picture="
+  --picture FILE  draw the diagram of the record at fault (SVG)" options='[-q] [-s] [--why] [--picture FILE] [--consequence | --twice]' proof="records" binary= twice="
   --twice        check by truth table too, which must answer the same: at most six variables"
     if [ "$name" = refute-drat ]; then
-        options='[-q] [-s] [--binary] [--consequence]' proof="a DRAT text" twice=
+        options='[-q] [-s] [--why] [--binary] [--consequence]' proof="a DRAT text" twice= picture=
         binary="
   --binary       the proof is binary DRAT"
     fi
     echo "usage: $title $options FORMULA PROOF
   FORMULA  DIMACS CNF, at most 65,536 bytes    PROOF  $proof, at most 65,536 bytes$binary
   --consequence  accept a line only if it follows from the formula: no PR line, no RAT clause$twice
+  --why          tell why a proof is refused: the piece at fault, and the cause$picture
   -s             print 's VERIFIED' or 's NOT VERIFIED' after the line
   -q             no words beside the line
   --version      print what runs here; --help  print this
@@ -20,7 +22,7 @@ Prints 'number place lines rounds peak'. Number 0: refuted, no assignment satisf
 Status: 0 refuted, 1 refused, 2 a file was not taken, wrong use, --help or --version, 3 no line could be written."
 }
 
-consequence='' verified='' twice='' asked=
+consequence='' verified='' twice='' why='' picture='' asked=
 while [ $# -gt 0 ]; do
     case $name:$1 in
     *:-q) quiet=1 ;;
@@ -28,6 +30,12 @@ while [ $# -gt 0 ]; do
     *:--consequence) consequence=c ;;
     refute-drat:--binary) form=b ;;
     refute:--twice) twice=1 ;;
+    *:--why) why=1 ;;
+    refute:--picture)
+        [ $# -gt 1 ] || { usage >&2 || true; end 2; }
+        picture=$2
+        shift
+        ;;
     *:--version) asked=version ;;
     *:--help) usage; end 2 ;;
     *:--) shift; break ;;
@@ -93,7 +101,27 @@ case $number in
 24 | 25) status=2 ;;
 *) status=1 ;;
 esac
-[ -z "$quiet" ] || exit
+
+# Why it is refused, by a program that calls the proved library once more.
+explain() {
+    local ended=0
+    [ -n "$why$picture" ] && [ "$status" = 1 ] || return 0
+    if [ ! -f "$1" ] || [ ! -f "$2" ]; then
+        tell "$title: --why reads both files again: they must be plain files"
+        return
+    fi
+    need_why
+    "$explainer" "$form$consequence" "$1" "$2" ${picture:+"$picture"} || ended=$?
+    case $ended in
+    1) ;;
+    3) status=3 ;;
+    *) tell "$title: the files are no longer those that were checked" ;;
+    esac
+}
+if [ -n "$quiet" ]; then
+    explain "$@"
+    exit
+fi
 
 # Whether a file can be seen to be the one that 24 or 25 is about; the line does not say which it was.
 is_the_one() {
@@ -159,3 +187,4 @@ case $number:$which in
 3:proof | 4:proof | 6:proof | 9:proof | 31:proof) more=$(hint "$form" "$2") ;;
 esac
 tell "refused: $number$at: $(sentence "$number")$more"
+explain "$@"

@@ -28,6 +28,11 @@ if [ -d "$here/programs" ]; then
         small=$programs/terminal
     }
 
+    # need_why: the program that tells why a proof is refused, `explainer`.
+    need_why() {
+        explainer=$programs/refute-why
+    }
+
     identity() {
         cat "$here/identity"
     }
@@ -103,6 +108,12 @@ else
         small=$root/target/terminal
         cc -std=c11 -O2 -I"$root/include" "$root/examples/c/terminal.c" "$archive" -o "$small.$$"
         mv -f "$small.$$" "$small"
+    }
+
+    # need_why: the program that tells why a proof is refused, `explainer`: rust/explain over the proved archive.
+    need_why() {
+        explainer=$root/rust/target/release/refute-why
+        "$root/rust/run" explain || { tell "$title: refute-why is not built"; exit; }
     }
 
     identity() {

@@ -67,6 +67,8 @@ enum cablesalak_number {
     CABLESALAK_NO_SUCH_MEMBER = 28,
     /* A parity record's last byte is neither 1 (odd) nor 0 (even). */
     CABLESALAK_NO_SUCH_PARITY = 29,
+    /* Of the call that explains a refusal: the check did not refuse. */
+    CABLESALAK_NOT_REFUSED = 30,
     /* A literal of a binary DRAT proof has surplus groups (more than one, and the last is 0), or is the literal 1. */
     CABLESALAK_WRONG_GROUPS = 31,
     /* In the consequence profile: a PR line. */
@@ -75,7 +77,7 @@ enum cablesalak_number {
     CABLESALAK_TOO_MANY_PATHS = 34
 };
 
-/* The greatest number of the table above. There is none of 30 and 32. */
+/* The greatest number of the table above. There is none of 32. */
 #define CABLESALAK_LAST_NUMBER 34
 
 /* A number's meaning in a few words; null for what is no number. */
@@ -112,6 +114,7 @@ static inline const char *cablesalak_meaning(unsigned number)
     case CABLESALAK_COFACTOR_BY_ZERO: return "cofactor by 0";
     case CABLESALAK_NO_SUCH_MEMBER: return "no such member, or struck already";
     case CABLESALAK_NO_SUCH_PARITY: return "parity byte above 1";
+    case CABLESALAK_NOT_REFUSED: return "the check did not refuse";
     case CABLESALAK_WRONG_GROUPS: return "surplus groups, or a literal 1";
     case CABLESALAK_PR_IN_PROFILE: return "a PR line in the consequence profile";
     case CABLESALAK_TOO_MANY_PATHS: return "over 4,096 paths";

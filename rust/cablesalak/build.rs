@@ -1,4 +1,4 @@
-//! Links the archives that `rt staticlib` writes of `export`, `nodes` and `node_check`. No other crate links them.
+//! Links the archives that `rt staticlib` writes of `export`, `explain`, `nodes` and `node_check`. No other crate links them.
 
 use std::env;
 use std::path::Path;
@@ -15,6 +15,7 @@ fn main() {
     println!("cargo:rerun-if-env-changed={FOLDER}");
     println!("cargo:rustc-link-search=native={folder}");
     link(&folder, "export");
+    link(&folder, "explain");
     if env::var_os("CARGO_FEATURE_NODES").is_some() {
         link(&folder, "nodes");
         link(&folder, "node_check");

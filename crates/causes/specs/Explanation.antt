@@ -6,7 +6,6 @@ use lib.ListN.{length}
 use lib.Dec.{eqb}
 use Rattle.meaning.specs.Operations as meaning
 use Rattle.table.specs.Nodes.{Node, Placing, full, placed, place}
-use Rattle.table.specs.Columns.{Columns}
 use Rattle.dimacs.specs.declared.Header.{Header}
 use Rattle.dimacs.specs.declared.Header.the-variants.{Proper, Improper}
 use Rattle.dimacs.specs.Header.{header}
@@ -14,7 +13,7 @@ use Rattle.dimacs.specs.Clauses.{Reading, clause, complete, refusal, clausesFro
 use Rattle.commands.specs.declared.Mode.{Mode}
 use Rattle.commands.specs.Commands.{start, commandAt}
 use Rattle.verdict.specs.Steps.{State, emptied, begun, Step, next, stop, spent}
-use Rattle.verdict.specs.Check.{step, verdict, lentFits}
+use Rattle.verdict.specs.Check.{step, verdict}
 use Rattle.causes.specs.Parts.{Part, nothing, partOf}
 use Rattle.causes.specs.Causes.{Cause, plain, cause}
 
@@ -83,10 +82,3 @@ explanation mode s formula proof =
     let v = verdict mode s formula proof in
     let refused = explained (v .number) (partOf mode formula proof v) (causeIn mode (v .number) proof (ending mode s formula proof)) in
     cond (eqb (v .number) 0) (explained 30 nothing plain) refused
-
--- The call, lent what a check is lent: "empty [..] for 7".
-unfoldable pub why : Mode → Columns → List ℕ → List ℕ → List ℕ → List ℕ → List ℕ → Explanation
-unfolding lentFits explanation
-why mode c members struck scratch formula proof =
-    let done = explanation mode (length (c .vars)) formula proof in
-    cond (lentFits c members struck scratch) done (explained 7 nothing plain)

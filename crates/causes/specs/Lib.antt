@@ -1,5 +1,6 @@
 pub mod Parts
 pub mod Causes
 pub mod Explanation
+pub mod Answers
 pub mod Shows
 pub mod Rows

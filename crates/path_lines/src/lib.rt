@@ -24,7 +24,7 @@ ghost use Rattle.path_lines.specs.Turns.{turnBy};
 
 // Fills the list with the members' cofactors by the literals, made in order; or stops at `full`. `memberwords` has the members' variables;
 // `words` then has the list's. A member without a variable of the literals stays.
-fn by_literals(
+pub fn by_literals(
     vars: &mut [u8],
     lows: &mut [u16],
     highs: &mut [u16],
@@ -83,7 +83,7 @@ fn by_literals(
 }
 
 // The turn of the path with the literals, worked out in `list`, where `memberwords` has the members' variables. Its nodes stay.
-fn path_turn(
+pub fn path_turn(
     vars: &mut [u8],
     lows: &mut [u16],
     highs: &mut [u16],

@@ -25,7 +25,7 @@ use Rattle.judge.proofs.Fits.{constant-turn, turn-shown, rup-reach}
 use Rattle.judge.proofs.Turning.{judgedAs, turn-full, turn-judged}
 use Rattle.causes.specs.Causes.{fixes}
 use Rattle.traces.specs.declared.Traced.{Traced}
-use Rattle.traces.specs.Traced.{fixedAs}
+use Rattle.causes.specs.Answers.{fixedAs}
 use Rattle.why.specs.Lines.{LineTraced}
 use Rattle.table.proofs.Outcomes.{Longer, longer, Grown, grown}
 use Rattle.operate.proofs.Results.{result-reduced}

@@ -13,7 +13,7 @@ use Rattle.table.specs.Nodes.{Node, diagramAt}
 use Rattle.table.specs.Indexed.{Table, size, nodesOf}
 use Rattle.table.specs.Making.{lineReach}
 use Rattle.causes.specs.Causes.{fixes}
-use Rattle.traces.specs.Traced.{fixedAs}
+use Rattle.causes.specs.Answers.{fixedAs}
 
 -- All that the line makes finds room, and it is not shown.
 pub record Unshown (t : Table) (line : Line) : Type 0 where

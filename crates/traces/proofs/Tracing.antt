@@ -33,7 +33,8 @@ use Rattle.propagate.proofs.Rounds.{Going, going-first, going-ready, going-ends
 use Rattle.verdict.specs.Check.{zeros}
 use Rattle.verdict.specs.Cases.{unitsTo}
 use Rattle.causes.specs.Causes.{takingFixes, fixesWithin, fixes}
-use Rattle.traces.specs.Traced.{trueWord, falseWord, fixedWords, TraceSays}
+use Rattle.causes.specs.Answers.{trueWord, falseWord, fixedWords}
+use Rattle.traces.specs.Traced.{TraceSays}
 use Rattle.traces.proofs.Units.{word-is, units-has}
 
 -- ---- the definition's steps

@@ -14,7 +14,7 @@ use Rattle.meaning.specs.Words.{inWord}
 use Rattle.meaning.proofs.Booleans.{eqb-eq, and-false}
 use Rattle.clausal.specs.Literals.{alike, has, literal}
 use Rattle.verdict.specs.Cases.{unitsTo}
-use Rattle.traces.specs.Traced.{wordFrom}
+use Rattle.causes.specs.Answers.{wordFrom}
 
 -- ---- words
 

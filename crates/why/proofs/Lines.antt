@@ -16,7 +16,8 @@ use Rattle.table.proofs.Extended.{extended-trans}
 use Rattle.judge.specs.Lines.{ByNegation}
 use Rattle.causes.specs.Causes.{fixes}
 use Rattle.traces.specs.declared.Traced.{Traced}
-use Rattle.traces.specs.Traced.{fixedAs, TraceSays}
+use Rattle.causes.specs.Answers.{fixedAs}
+use Rattle.traces.specs.Traced.{TraceSays}
 use Rattle.why.specs.Lines.{LineTraced}
 
 module _ (T : Table) (G : Good T) (ms : List Diagram) (g : Diagram) (T₁ : Table) (list : List ℕ) where

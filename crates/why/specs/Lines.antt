@@ -12,7 +12,7 @@ use Rattle.table.specs.Making.{placedAll}
 use Rattle.table.specs.Lists.{Extended, room}
 use Rattle.causes.specs.Causes.{fixes}
 use Rattle.traces.specs.declared.Traced.{Traced}
-use Rattle.traces.specs.Traced.{fixedAs}
+use Rattle.causes.specs.Answers.{fixedAs}
 
 -- The members ms by not-g and their propagation, over the table t: `full` exactly where what they make finds no room, else the words of
 -- the rounds.

@@ -5,10 +5,24 @@ use crate::form::Form;
 use crate::pairs::Pair;
 use crate::sha256::hex;
 use crate::twice::{Second, Table};
-use cablesalak::{Mode, Number, Text, Workspace};
+use cablesalak::{Explanation, Mode, Number, Text, Workspace};
 use std::time::Instant;
 
 pub use cablesalak::{PLACES, VERSION};
+
+fn mode(settings: Settings, form: Form) -> Mode {
+    let form = match form {
+        Form::Records => cablesalak::Form::Records,
+        Form::Text => cablesalak::Form::Text,
+        Form::Binary => cablesalak::Form::Binary,
+    };
+    Mode { form, consequence: settings.consequence }
+}
+
+/// Why a check is refused (02, 8/14). None where the table cannot have so many places.
+pub fn explained<'a>(settings: Settings, form: Form, formula: &'a [u8], proof: &'a [u8]) -> Option<Explanation<'a>> {
+    Some(Workspace::new(settings.places).ok()?.why(mode(settings, form), formula, proof))
+}
 
 /// What a verdict depends on besides the two files and the proof's form.
 #[derive(Clone, Copy, Debug, PartialEq, Eq)]
@@ -124,12 +138,7 @@ impl Checker {
 
     /// The call of the library on the two files that were read.
     fn judge(&mut self, form: Form, answer: &mut Answer) {
-        let form = match form {
-            Form::Records => cablesalak::Form::Records,
-            Form::Text => cablesalak::Form::Text,
-            Form::Binary => cablesalak::Form::Binary,
-        };
-        let mode = Mode { form, consequence: self.settings.consequence };
+        let mode = mode(self.settings, form);
         let said = self.workspace.check(mode, self.formula.text(), self.proof.text());
         answer.number = said.number.code();
         answer.file = match said.text {

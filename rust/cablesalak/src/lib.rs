@@ -88,6 +88,7 @@ pub mod raw;
 mod report;
 mod table;
 mod view;
+mod why;
 
 pub use check::{
     check, check_lent, check_lent_in, check_text, check_text_lent, Text, Verdict, Workspace, MEMBERS, SCRATCH,
@@ -105,6 +106,7 @@ pub use raw::{Columns, ColumnsMut, ListsMut};
 pub use raw::{Rows, RowsMut};
 pub use report::{report, Report, LONGEST};
 pub use table::Table;
+pub use why::{Cause, Explanation, Round, FIXED};
 
 /// The library's version; the header's `CABLESALAK_VERSION` is the same. An archive whose calls are laid out in another way does
 /// not link.

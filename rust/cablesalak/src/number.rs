@@ -108,6 +108,8 @@ numbers! {
     NoSuchMember = 28, "no such member, or struck already";
     /// A parity record's last byte is neither 1 (odd) nor 0 (even).
     NoSuchParity = 29, "parity byte above 1";
+    /// Of the call that explains a refusal: the check did not refuse.
+    NotRefused = 30, "the check did not refuse";
     /// A literal of a binary DRAT proof has surplus groups (more than one, and the last is 0), or is the literal 1.
     WrongGroups = 31, "surplus groups, or a literal 1";
     /// In the consequence profile: a PR line.
@@ -117,7 +119,7 @@ numbers! {
 }
 
 impl Number {
-    /// All numbers with a name, in their order. There is none of 30 and 32.
+    /// All numbers with a name, in their order. There is none of 32.
     pub fn all() -> impl Iterator<Item = Number> {
         KNOWN.iter().copied()
     }

@@ -6,7 +6,7 @@
 
 #[cfg(feature = "nodes")]
 use crate::Node;
-pub use answers::{AtLeast, Checked, Converted, Evaluated, Single, Told, LINE};
+pub use answers::{AtLeast, Checked, Converted, Evaluated, Single, Told, Why, LINE};
 
 mod answers;
 mod archive;
@@ -157,6 +157,25 @@ pub fn check_in(
     let ListsMut { members, struck, scratch } = lists;
     call!(
         cablesalak_check_in, columns mut table, count, mut members, mut struck, mut scratch, ref formula, ref proof, form, consequence,
+    )
+}
+
+/// Why the check of a formula and a proof in a mode is refused. `fixed` has 128 words or more; with 19 they hold the literals that the last
+/// propagation fixes, two words a round, those made true and those made false. The other lists end as after the check.
+pub fn why(
+    mode: RawMode,
+    table: &mut ColumnsMut<'_>,
+    count: usize,
+    lists: &mut ListsMut<'_>,
+    fixed: &mut [u64],
+    formula: &[u8],
+    proof: &[u8],
+) -> Why {
+    let RawMode { form, consequence } = mode;
+    let ListsMut { members, struck, scratch } = lists;
+    call!(
+        cablesalak_why, columns mut table, count, mut members, mut struck, mut scratch, mut fixed, ref formula, ref proof, form,
+        consequence,
     )
 }
 

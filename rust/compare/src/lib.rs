@@ -21,3 +21,4 @@ pub mod single;
 mod strike;
 pub mod table;
 pub mod tally;
+pub mod why;

@@ -1,7 +1,7 @@
 //! `compare [COUNT] [SEED] [--left COMMAND] [--right COMMAND] [--only WORD,WORD,..]`
 //!
 //! Asks two filters the same random commands, COUNT of them, and some again: checks in tables around their peak, checks of DRAT
-//! proofs in the other form, conversions back. Compares what they say of DRAT proofs with RUP and RAT over clauses, what they say
+//! proofs in the other form, conversions back, why checks are refused. Compares what they say of DRAT proofs with RUP and RAT over clauses, what they say
 //! in the other form with what they said (all but the place), and conversions byte by byte with its own. Says how often each
 //! number came; ends with status 1 and shows the command where the answers differ. The filters are `driver` and `reference`
 //! beside this program where none are named. A WORD is a single call, `check`, `drat`, `dratb`, `convert`, or `cons` before one
@@ -9,7 +9,7 @@
 
 use compare::filter::Filter;
 use compare::random::Random;
-use compare::{binary, check, clausal, convert, drat, paths, single, tally};
+use compare::{binary, check, clausal, convert, drat, paths, single, tally, why};
 use std::collections::BTreeMap;
 use std::process::exit;
 
@@ -26,13 +26,16 @@ fn main() {
     let mut filters = options.filters.each_ref().map(|command| Filter::start(command));
     let mut tally = Tally::default();
     let mut sizes = Random::new(options.seed);
+    let mut reasons = Random::new(options.seed);
     let mut drawn = 0;
     while drawn < options.count {
         let commands = batch(&mut random, &options.words, options.count - drawn);
         drawn += commands.len();
         let answers = agreed(&options, &mut filters, &commands, &mut tally);
         let again = refilled(&mut sizes, &commands, &answers);
-        agreed(&options, &mut filters, &again, &mut tally);
+        let refilled = agreed(&options, &mut filters, &again, &mut tally);
+        explained(&options, &mut filters, &mut reasons, commands.iter().zip(&answers), &mut tally);
+        explained(&options, &mut filters, &mut reasons, again.iter().zip(&refilled), &mut tally);
         in_other_form(&options, &mut filters, &mut sizes, &commands, &answers, &mut tally);
     }
     print!("{}", tally.text());
@@ -96,6 +99,26 @@ fn in_other_form(
             differ(options, command, [Some(answer), Some(answer)]);
         }
         tally.count("in the other form", answer);
+    }
+}
+
+/// Of some of the checks, and of all that have a cause beside their number, why they are refused: the number is the check's, 30 where it did not refuse, and the piece starts at its place.
+fn explained<'a>(
+    options: &Options,
+    filters: &mut [Filter; 2],
+    random: &mut Random,
+    checks: impl Iterator<Item = (&'a String, &'a String)>,
+    tally: &mut Tally,
+) {
+    let asked = checks.filter_map(|(command, answer)| why::of(command, answer));
+    let asked = asked.filter(|(_, wanted)| random.percent(25) || wanted.has_cause());
+    let (questions, wanted): (Vec<String>, Vec<why::Wanted>) = asked.unzip();
+    let answers = agreed(options, filters, &questions, tally);
+    for ((question, answer), wanted) in questions.iter().zip(&answers).zip(&wanted) {
+        if !wanted.met(answer) {
+            println!("compare: the check says {wanted:?}");
+            differ(options, question, [Some(answer), Some(answer)]);
+        }
     }
 }
 

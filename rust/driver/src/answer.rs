@@ -11,15 +11,16 @@ pub fn answer(command: &Command, dirt: &mut Dirt) -> String {
         Command::Single(table, Call::Evaluate(node, word)) => evaluate(table, *node, *word),
         Command::Single(table, call) => single(table, call),
         Command::Check(asked) => check(asked, dirt),
+        Command::Why(asked) => crate::why::why(asked, dirt),
         Command::Convert(asked) => convert(asked, dirt),
     };
     answered.unwrap_or_else(|what| what)
 }
 
-type Answered = Result<String, String>;
+pub type Answered = Result<String, String>;
 
 /// Refuses the answer where a fact about the lent places does not hold.
-fn expect(holds: bool, what: &str) -> Result<(), String> {
+pub fn expect(holds: bool, what: &str) -> Result<(), String> {
     if holds {
         Ok(())
     } else {
@@ -73,26 +74,41 @@ fn counted(said: AtLeast) -> Result<(Single, String), String> {
 }
 
 /// The lent parts of a whole check.
-struct Parts {
-    table: Lists,
-    members: Lent<u16>,
+pub struct Parts {
+    pub table: Lists,
+    pub members: Lent<u16>,
     /// A mark for each place of the member list.
-    struck: Lent<u8>,
-    scratch: Lent<u16>,
+    pub struck: Lent<u8>,
+    pub scratch: Lent<u16>,
+}
+
+impl Parts {
+    /// Whether nothing was written outside the lent places.
+    pub fn guarded(&self) -> Result<(), String> {
+        expect(self.table.guarded(), "written outside the table")?;
+        expect(self.members.guarded(), "written outside the member list")?;
+        expect(self.struck.guarded(), "written outside the marks")?;
+        expect(self.scratch.guarded(), "written outside the scratch list")
+    }
+
+    /// Whether two have the same in every place.
+    pub fn same(&self, other: &Parts) -> bool {
+        self.table.same(&other.table)
+            && self.members.places() == other.members.places()
+            && self.struck.places() == other.struck.places()
+            && self.scratch.places() == other.scratch.places()
+    }
 }
 
 /// The lent count is 2, as the protocol says.
-const LENT_COUNT: usize = 2;
+pub const LENT_COUNT: usize = 2;
 
 fn check(asked: &Check, dirt: &mut Dirt) -> Answered {
     let seed = dirt.next();
     let mut parts = dirty_parts(asked, seed);
     // One call and the other in turn.
     let said = judge(&mut parts, asked, &asked.proof, seed & 1 == 0);
-    expect(parts.table.guarded(), "written outside the table")?;
-    expect(parts.members.guarded(), "written outside the member list")?;
-    expect(parts.struck.guarded(), "written outside the marks")?;
-    expect(parts.scratch.guarded(), "written outside the scratch list")?;
+    parts.guarded()?;
     expect(said.in_proof == in_proof(asked, &said), "the place is told to be in the other text")?;
     let kept = match said.number {
         7 => {
@@ -113,7 +129,7 @@ fn check(asked: &Check, dirt: &mut Dirt) -> Answered {
 }
 
 /// Parts that hold anything: the same for the same seed.
-fn dirty_parts(asked: &Check, seed: u64) -> Parts {
+pub fn dirty_parts(asked: &Check, seed: u64) -> Parts {
     let mut dirt = Dirt(seed);
     Parts {
         table: Lists::dirty(asked.size, &asked.index, &mut dirt),
@@ -125,19 +141,25 @@ fn dirty_parts(asked: &Check, seed: u64) -> Parts {
 
 /// The check by the call that takes a mode. Records and texts outside the profile have calls of their own besides, which
 /// `plainly` asks for.
-fn judge(parts: &mut Parts, asked: &Check, proof: &[u8], plainly: bool) -> Checked {
+pub fn judge(parts: &mut Parts, asked: &Check, proof: &[u8], plainly: bool) -> Checked {
     let Parts { table, members, struck, scratch } = parts;
     let lists = &mut ListsMut { members: members.lend(), struck: struck.lend(), scratch: scratch.lend() };
     let (table, formula) = (&mut table.lend(), &asked.formula);
-    let form = match (asked.form, asked.consequence) {
-        (Form::Records, false) if plainly => return raw::check(table, LENT_COUNT, lists, formula, proof),
-        (Form::Text, false) if plainly => return raw::check_text(table, LENT_COUNT, lists, formula, proof),
-        (Form::Records, _) => 0,
-        (Form::Text, _) => 1,
-        // Any other number is binary DRAT.
-        (Form::Binary, _) => [2, 3, 255][proof.len() % 3],
+    match (asked.form, asked.consequence) {
+        (Form::Records, false) if plainly => raw::check(table, LENT_COUNT, lists, formula, proof),
+        (Form::Text, false) if plainly => raw::check_text(table, LENT_COUNT, lists, formula, proof),
+        _ => raw::check_in(mode(asked, proof), table, LENT_COUNT, lists, formula, proof),
+    }
+}
+
+/// The mode as the archive numbers it: any number above 1 is binary DRAT.
+pub fn mode(asked: &Check, proof: &[u8]) -> RawMode {
+    let form = match asked.form {
+        Form::Records => 0,
+        Form::Text => 1,
+        Form::Binary => [2, 3, 255][proof.len() % 3],
     };
-    raw::check_in(RawMode { form, consequence: asked.consequence }, table, LENT_COUNT, lists, formula, proof)
+    RawMode { form, consequence: asked.consequence }
 }
 
 /// Which text the place must be in. 3, 4 and 6 are said of the formula and of a DRAT proof; of a formula that is fine an empty
@@ -171,7 +193,7 @@ fn hex(bytes: &[u8]) -> String {
 }
 
 /// "Number 7 changes nothing."
-fn unchanged(parts: &Parts, before: &Parts) -> Result<(), String> {
+pub fn unchanged(parts: &Parts, before: &Parts) -> Result<(), String> {
     expect(parts.table.same(&before.table), "7 changed the table or its index")?;
     expect(parts.members.places() == before.members.places(), "7 changed the member list")?;
     expect(parts.struck.places() == before.struck.places(), "7 changed the marks")?;

@@ -69,6 +69,8 @@ pub struct Conversion {
 pub enum Command {
     Single(Table, Call),
     Check(Check),
+    /// Why a check is refused.
+    Why(Check),
     Convert(Conversion),
 }
 
@@ -83,22 +85,29 @@ pub fn read(line: &str) -> Option<Command> {
     let words: Vec<&str> = line.split(' ').collect();
     let told = words.iter().position(|word| word.starts_with('!')).unwrap_or(words.len());
     let index = index(&words[told..])?;
+    let checked = |form, [size, members, scratch, formula, proof]: [&str; 5], index: Index| {
+        let (size, members, scratch) = (places(size)?, places(members)?, places(scratch)?);
+        let (formula, proof) = (bytes(formula)?, bytes(proof)?);
+        Some(Check { form, consequence, size, index, members, scratch, formula, proof })
+    };
     match words[..told] {
-        ["check" | "drat" | "dratb", ..] if !index.changes.is_empty() => None,
-        [word @ ("check" | "drat" | "dratb"), size, members, scratch, formula, proof] => Some(Command::Check(Check {
-            form: match word {
+        ["check" | "drat" | "dratb" | "why", ..] if !index.changes.is_empty() => None,
+        [word @ ("check" | "drat" | "dratb"), size, members, scratch, formula, proof] => {
+            let form = match word {
                 "drat" => Form::Text,
                 "dratb" => Form::Binary,
                 _ => Form::Records,
-            },
-            consequence,
-            size: places(size)?,
-            index,
-            members: places(members)?,
-            scratch: places(scratch)?,
-            formula: bytes(formula)?,
-            proof: bytes(proof)?,
-        })),
+            };
+            checked(form, [size, members, scratch, formula, proof], index).map(Command::Check)
+        }
+        ["why", form @ ("r" | "t" | "b"), size, members, scratch, formula, proof] => {
+            let form = match form {
+                "t" => Form::Text,
+                "b" => Form::Binary,
+                _ => Form::Records,
+            };
+            checked(form, [size, members, scratch, formula, proof], index).map(Command::Why)
+        }
         _ if consequence => None,
         [word @ ("tobin" | "totext"), size, proof] if told == words.len() => Some(Command::Convert(Conversion {
             from: if word == "tobin" { Form::Text } else { Form::Binary },

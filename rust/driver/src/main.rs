@@ -9,6 +9,7 @@ mod lent;
 mod small;
 #[cfg(test)]
 mod tests;
+mod why;
 
 use lent::Dirt;
 use std::io::{self, BufRead, BufReader, BufWriter, Write};

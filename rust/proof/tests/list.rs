@@ -185,3 +185,23 @@ fn wrong_use() {
     let ended = |arguments: &[&str]| Command::new(env!("CARGO_BIN_EXE_list")).args(arguments).status().unwrap().code();
     assert_eq!((ended(&[]), ended(&["/no/such/file"])), (Some(2), Some(2)));
 }
+
+/// With the formula its clauses come first, as members; lines and strikings name theirs.
+#[test]
+fn members() {
+    let folder = env!("CARGO_TARGET_TMPDIR");
+    let (formula, proof) = (format!("{folder}/members.cnf"), format!("{folder}/members"));
+    std::fs::write(&formula, "c two\np cnf 2 2\n1 2\nc more\n0 -1 2 0\n").unwrap();
+    std::fs::write(&proof, [0x44, 0, 0, 0x52, 0, 0, 0x44, 2, 0, 0x44, 9, 0, 0x45]).unwrap();
+    let output = Command::new(env!("CARGO_BIN_EXE_list")).args([formula, proof]).output().unwrap();
+    let wanted = "\
+member 0: 1 2 0
+member 1: -1 2 0
+     0  44 00 00           strike out member 0, the clause 1 2 0
+     3  52 00 00           line 1: RUP 0 (the 0 line), member 2
+     6  44 02 00           strike out member 2, line 1
+     9  44 09 00           strike out member 9, WHICH DOES NOT EXIST (28)
+    12  45                 end, 1 line
+";
+    assert_eq!((output.status.code(), String::from_utf8(output.stdout).unwrap()), (Some(0), wanted.into()));
+}

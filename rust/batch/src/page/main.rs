@@ -2,17 +2,12 @@
 //!
 //! Verdicts are the results'. Formulas and proofs are read again for their words, where their bytes are still those that were checked.
 
-mod binary;
-mod html;
-mod line;
 mod page;
 mod pair;
-mod picture;
 mod question;
 mod read;
 mod refusal;
 mod sentence;
-mod words;
 
 use batch::check::VERSION;
 use batch::record::{ARCHIVE, COMMIT};

@@ -1,10 +1,12 @@
 //! The page as a whole.
 
-use crate::html::{escaped, STYLE};
 use crate::question::Question;
 use crate::read::{is_in_profile, is_twice, Results, Run};
 use batch::record::Class;
+use explain::text::escaped;
 use std::fmt::Write;
+
+const STYLE: &str = include_str!("style.css");
 
 /// A page of more questions than this would be too large for a browser with every rule in it.
 const MOST_IN_FULL: usize = 500;

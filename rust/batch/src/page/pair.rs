@@ -1,13 +1,14 @@
 //! A pair of the results: its outcome, and its files as far as they are still those that were checked.
 
-use crate::html::escaped;
 use crate::refusal;
 use crate::sentence::sentence;
-use crate::words::Words;
+use batch::check::Settings;
 use batch::files::Room;
 use batch::json::Value;
 use batch::record::Class;
 use batch::sha256;
+use explain::text::escaped;
+use explain::words::Words;
 use std::fmt::Write;
 use std::path::Path;
 
@@ -21,6 +22,8 @@ pub struct Pair {
     result: Value,
     /// The number of its run on the page, where that is known.
     run: Option<usize>,
+    /// What its verdict depends on besides the files, where its run is known.
+    pub settings: Option<Settings>,
     pub formula: Option<Vec<u8>>,
     pub proof: Option<Vec<u8>>,
     pub words: Words,
@@ -35,14 +38,14 @@ fn quoted(name: Option<&str>, digest: Option<&str>) -> Option<Vec<u8>> {
 }
 
 impl Pair {
-    pub fn new(result: Value, run: Option<usize>) -> Pair {
+    pub fn new(result: Value, run: Option<usize>, settings: Option<Settings>) -> Pair {
         // Where no check came to its end there is no digest and no verdict on any bytes: the question is quoted as it is now.
         let is_unread = matches!(result.text("outcome"), Some("time limit" | "ended"));
         let digest = |name| result.text(name).or((!is_unread).then_some("not read"));
         let formula = quoted(result.text("formula"), digest("formula_sha256"));
         let proof = quoted(result.text("proof"), Some(result.text("proof_sha256").unwrap_or("not read")));
         let words = Words::of(&formula.as_deref().map_or("".into(), String::from_utf8_lossy));
-        Pair { result, run, formula, proof, words }
+        Pair { result, run, settings, formula, proof, words }
     }
 
     pub fn text(&self, name: &str) -> &str {

@@ -1,8 +1,8 @@
 //! A question: a formula with all of its proofs.
 
-use crate::html::escaped;
 use crate::pair::{class_name, Pair};
 use batch::record::Class;
+use explain::text::escaped;
 use std::collections::HashSet;
 use std::fmt::Write;
 

@@ -2,6 +2,7 @@
 
 use crate::pair::Pair;
 use crate::question::Question;
+use batch::check::Settings;
 use batch::json::Value;
 use batch::record::Class;
 use batch::results::explained;
@@ -77,7 +78,8 @@ impl Reading {
             let digest = value.text("formula_sha256").or(digests.get(&formula).map(String::as_str)).unwrap_or("");
             let key = (formula.clone(), if formula.is_empty() { proof } else { digest.to_string() });
             let question = questions.entry(key).or_insert(Question { pairs: Vec::new() });
-            question.pairs.push(Pair::new(value, run.map(|run| run + 1)));
+            let settings = run.and_then(|run| settings(&self.runs[run].record));
+            question.pairs.push(Pair::new(value, run.map(|run| run + 1), settings));
         }
         let mut questions: Vec<Question> = questions.into_values().collect();
         let ranks = [Class::Disagreed, Class::Refused, Class::NoVerdict, Class::Refuted];
@@ -85,6 +87,12 @@ impl Reading {
         questions.sort_by_key(|question| rank(question.class()));
         Results { runs: self.runs, questions }
     }
+}
+
+/// What the run's verdicts depend on besides the files.
+fn settings(run: &Value) -> Option<Settings> {
+    let places = run.number("places").and_then(|places| places.try_into().ok())?;
+    Some(Settings { places, consequence: is_in_profile(run), twice: is_twice(run) })
 }
 
 pub fn is_in_profile(run: &Value) -> bool {

@@ -1,11 +1,13 @@
 //! Why a proof is refused: the sentence, the place, and what stands there.
 
-use crate::html::escaped;
-use crate::line::{self, Found};
 use crate::pair::Pair;
 use crate::sentence::sentence;
-use crate::{binary, picture};
-use proof::{Diagram, Diagrams};
+use batch::check::explained;
+use batch::form::Form;
+use explain::line::{self, Found};
+use explain::text::escaped;
+use explain::{binary, cause, picture};
+use proof::{Diagram, Diagrams, Record};
 
 /// The most bytes of a text that are quoted before the place, and after it.
 const BEFORE: usize = 200;
@@ -39,7 +41,22 @@ pub fn refusal(pair: &Pair, id: usize) -> String {
             Some(found) => in_records(pair, found, place, id),
         },
     };
-    format!("{head}{body}\n")
+    format!("{head}{body}{}\n", cause(pair).unwrap_or_default())
+}
+
+/// The cause in sentences, by the proved library, where there is more to say than the number and the files are those that were checked.
+fn cause(pair: &Pair) -> Option<String> {
+    let (formula, proof, settings) = (pair.formula.as_ref()?, pair.proof.as_ref()?, pair.settings?);
+    let form = Form::named(pair.text("form").as_bytes())?;
+    let why = explained(settings, form, formula, proof)?;
+    if u64::from(why.number.code()) != pair.number("number") || why.place as u64 != pair.number("place") {
+        return None;
+    }
+    let found = if form == Form::Records { line::find(proof, why.place) } else { None };
+    let is_path = matches!(found, Some(Found { record: Some(Record::Path { .. }), .. }));
+    let lines = cause::sentences(&pair.words, &why.cause, is_path);
+    let said: Vec<String> = lines.iter().map(|line| escaped(line.trim_start())).collect();
+    (!said.is_empty()).then(|| format!("\n<p>{}</p>", said.join("<br>")))
 }
 
 /// The line of a text that has the place, and the word there marked.
@@ -52,17 +69,8 @@ fn in_text(pair: &Pair, bytes: &[u8], place: usize, file: &str, id: usize) -> St
     let (before, marked, after) =
         (part(start.max(place.saturating_sub(BEFORE)), place), part(place, word), part(word, end));
     let quoted = format!("<p class=\"bytes\">{before}<mark>{marked}</mark>{after}</p>");
-    let clause = if file == "proof" { text_clause(&bytes[place..]) } else { Vec::new() };
+    let clause = if file == "proof" { explain::text::clause(&bytes[place..]) } else { Vec::new() };
     format!("<p>It is in line {row} of the {file}, byte {place}:</p>\n{quoted}{}", in_words(pair, file, &clause, id))
-}
-
-/// The literals of the clause that a DRAT text begins with.
-fn text_clause(bytes: &[u8]) -> Vec<i64> {
-    let text = String::from_utf8_lossy(bytes);
-    let lines = text.lines().filter(|line| !line.starts_with('c'));
-    let tokens = lines.flat_map(str::split_ascii_whitespace).skip_while(|&token| token == "d");
-    let literals = tokens.map_while(|token| token.parse::<i64>().ok());
-    literals.take_while(|&literal| literal != 0).collect()
 }
 
 /// The bytes of the clause or literal at the place.

@@ -56,6 +56,30 @@ pub struct Converted {
     pub length: usize,
 }
 
+/// The answer of the call that explains a refusal.
+#[repr(C)]
+#[derive(Clone, Copy, Debug, PartialEq, Eq)]
+pub struct Why {
+    /// The check's, or 30 where it did not refuse.
+    pub number: u8,
+    /// Whether the piece is of the proof; else it is of the formula, or the number is 7 or 30.
+    pub in_proof: bool,
+    /// Where the piece starts, and the place behind its last byte.
+    pub start: usize,
+    pub end: usize,
+    /// With 14: the record's variable, and that of the child that it is not before.
+    pub variable: u8,
+    pub child: u8,
+    /// With 18: the assignment, bit i - 1 for variable i.
+    pub word: u64,
+    /// With 19: how many rounds fixed literals, two words each in the lent list.
+    pub rounds: usize,
+    pub has_member: bool,
+    pub member: usize,
+    /// The table's count; as lent with 7.
+    pub count: usize,
+}
+
 /// How many bytes a line can have: see [`report`](super::report).
 pub const LINE: usize = 105;
 
@@ -78,5 +102,9 @@ const _: () = {
     assert!(offset_of!(Checked, in_proof) == 1);
     assert!(offset_of!(Checked, rounds) == 24 && offset_of!(Checked, count) == 32 && offset_of!(Checked, peak) == 40);
     assert!(size_of::<Converted>() == 24 && offset_of!(Converted, place) == 8 && offset_of!(Converted, length) == 16);
+    assert!(size_of::<Why>() == 72 && offset_of!(Why, in_proof) == 1 && offset_of!(Why, start) == 8);
+    assert!(offset_of!(Why, end) == 16 && offset_of!(Why, variable) == 24 && offset_of!(Why, child) == 25);
+    assert!(offset_of!(Why, word) == 32 && offset_of!(Why, rounds) == 40 && offset_of!(Why, has_member) == 48);
+    assert!(offset_of!(Why, member) == 56 && offset_of!(Why, count) == 64);
     assert!(size_of::<Told>() == 16 && offset_of!(Told, length) == 0 && offset_of!(Told, status) == 8);
 };

@@ -1,7 +1,7 @@
 //! The declarations. A slice is passed as its address and its length, two arguments apart: a pair that did not fit into the
 //! registers left would lie elsewhere.
 
-use super::answers::{AtLeast, Checked, Converted, Evaluated, Single, Told, LINE};
+use super::answers::{AtLeast, Checked, Converted, Evaluated, Single, Told, Why, LINE};
 #[cfg(feature = "nodes")]
 use crate::Node;
 
@@ -178,6 +178,34 @@ extern "C" {
         form: u8,
         consequence: bool,
     ) -> Checked;
+
+    pub fn cablesalak_why(
+        vars: *mut u8,
+        vars_length: usize,
+        lows: *mut u16,
+        lows_length: usize,
+        highs: *mut u16,
+        highs_length: usize,
+        heads: *mut u16,
+        heads_length: usize,
+        links: *mut u16,
+        links_length: usize,
+        count: usize,
+        members: *mut u16,
+        members_length: usize,
+        struck: *mut u8,
+        struck_length: usize,
+        scratch: *mut u16,
+        scratch_length: usize,
+        fixed: *mut u64,
+        fixed_length: usize,
+        formula: *const u8,
+        formula_length: usize,
+        proof: *const u8,
+        proof_length: usize,
+        form: u8,
+        consequence: bool,
+    ) -> Why;
 
     pub fn cablesalak_to_binary(text: *const u8, text_length: usize, out: *mut u8, out_length: usize) -> Converted;
 

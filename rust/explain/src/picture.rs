@@ -1,6 +1,6 @@
 //! A diagram as a picture (SVG): a row for each fact, a broken line to the low side (the fact is false), a full one to the high side.
 
-use crate::html::escaped;
+use crate::text::escaped;
 use crate::words::Words;
 use proof::{Diagram, Diagrams};
 use std::collections::{BTreeMap, HashMap, HashSet};
@@ -41,6 +41,18 @@ pub fn picture(diagrams: &Diagrams, f: Diagram, words: &Words, said: &str, id: u
     nodes.iter().filter(|&&g| g > 1).for_each(|&g| put_edges(&mut out, diagrams, &layout, g));
     nodes.iter().for_each(|&g| put_node(&mut out, diagrams, &layout, g));
     Some(out + "</svg>\n")
+}
+
+/// How a picture in a file of its own is drawn.
+const STYLE: &str = "text { font: 14px sans-serif } .in { text-anchor: middle } circle, rect { fill: white; stroke: black; stroke-width: 1.5 } \
+    .row { stroke: #ccc; fill: none } .low, .high { stroke: black; stroke-width: 1.5; fill: none } .low { stroke-dasharray: 4 4 }";
+
+/// The picture as a file of its own.
+pub fn file(diagrams: &Diagrams, f: Diagram, words: &Words, said: &str) -> Option<String> {
+    let drawn = picture(diagrams, f, words, said, 0)?;
+    let inner = drawn.strip_prefix("<svg")?;
+    let (head, rest) = inner.split_once('>')?;
+    Some(format!("<svg xmlns=\"http://www.w3.org/2000/svg\"{head}><style>{STYLE}</style>{rest}"))
 }
 
 /// The diagrams below f, f first, the constants among them; none where there are more nodes than this.
