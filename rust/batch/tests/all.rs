@@ -2,9 +2,10 @@
 
 mod common;
 
-use common::{all, copy, folder, slow, Said, EXAMPLES};
+use common::{all, copy, folder, slow, Said, ALL, EXAMPLES};
 use std::fs;
 use std::path::Path;
+use std::process::Command;
 
 fn examples(words: &[&str]) -> Said {
     all(Path::new(EXAMPLES), words)
@@ -156,6 +157,27 @@ fn two_methods() {
     assert!(fs::read_to_string(folder.join("full")).unwrap().contains("\"second\":\"none\""));
     // The check by truth table has no profile.
     all(&folder, &["--twice", "--consequence", "."]).is(2, &[]);
+}
+
+/// On a terminal (that of `script`) standard error has the state in one line, which is taken away before each line of output.
+#[test]
+fn progress_on_a_terminal() {
+    let folder = folder("terminal");
+    copy(&folder, &["case-a.cnf", "case-a.proof"]);
+    slow(&folder);
+    let command = format!("'{ALL}' -t 1 .");
+    let output = Command::new("script").current_dir(&folder).args(["-qec", &command, "/dev/null"]).output().unwrap();
+    let said = String::from_utf8(output.stdout).unwrap();
+    assert_eq!(output.status.code(), Some(2), "{said}");
+    let shown = "\r\u{1b}[K1 of 2: 1 refuted, 0 refused, 0 without a verdict; ";
+    assert!(
+        said.contains(shown) && said.contains(" a second, ") && said.contains(" s left\r\u{1b}[K- time limit\t"),
+        "{said:?}"
+    );
+    assert!(said.trim_end().ends_with(" s") && said.contains("2 of 2: 1 refuted, 0 refused, 1 without a verdict; "));
+    // Where standard error is no terminal, there is the last state alone.
+    let said = all(&folder, &["-t", "1", "."]);
+    assert_eq!(said.error.lines().count(), 1, "{}", said.error);
 }
 
 #[test]
