@@ -169,8 +169,7 @@ fn causes() {
         is_sound(&made);
         made
     };
-    let told =
-        "Where the line is false, these literals follow by unit propagation:<br>\nround 1: 2 (“&lt;b&gt;”)<br>";
+    let told = "Where the line is false, these literals follow by unit propagation:<br>\nround 1: 2 (“&lt;b&gt;”)<br>";
     assert!(page_of("same", &text).contains(told));
     // Another number or place than the library's, and a slow check.
     for (from, to) in [("\"number\":19", "\"number\":18"), ("\"place\":6", "\"place\":7")] {
