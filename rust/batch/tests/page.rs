@@ -114,8 +114,11 @@ fn hostile_words_stay_words() {
     let run =
         r#"{"type":"run","checker":"<b>","commit":"</table>","archive_sha256":"\"><script>","places":-1,"began":[]}"#;
     let fault = r#"{"type":"fault","what":"<script>"}"#;
-    fs::write(folder.join("other"), format!("{run}\n{record}\n{fault}\n[[[\n{record}\n\u{0}\n{{\"type\":\"pair\"}}\n"))
-        .unwrap();
+    let lacks = r#"{"type":"pair","formula":"f","proof":"p","outcome":"not twice","why":"<script>"}"#;
+    let second =
+        r#"{"type":"pair","formula":"g","proof":"p","outcome":"disagreed","second":{"number":"<i>","place":-1}}"#;
+    let lines = [run, record, fault, lacks, second, "[[[", record, "\u{0}", "{\"type\":\"pair\"}", ""];
+    fs::write(folder.join("other"), lines.join("\n")).unwrap();
     is_sound(&self::page(&folder, &["other", "results"]));
 }
 
