@@ -243,7 +243,7 @@ fn two_methods() {
     ] {
         assert!(disagreed.contains(text), "{text}");
     }
-    assert!(disagreed.find("‼ methods disagree</td>") < disagreed.find("– no verdict</td>"), "it comes first");
+    assert!(disagreed.find("‼ disagree</td>") < disagreed.find("– no verdict</td>"), "it comes first");
     // By one method before: both results are on the page.
     all(&folder, &["-q", "-o", "once", "."]);
     let both = page(&folder, &["once", "results"]);

@@ -45,7 +45,7 @@ impl Question {
             Class::Refuted => "✓ refuted",
             Class::Refused => "✗ not shown",
             Class::NoVerdict => "– no verdict",
-            Class::Disagreed => "‼ methods disagree",
+            Class::Disagreed => "‼ disagree",
         };
         format!(
             "<tr><td><a href=\"#q{id}\">{words}</a></td><td class=\"n\">{proofs}</td><td class=\"is {class}\">{result}</td></tr>\n"
