@@ -34,7 +34,10 @@ fn main() {
     // A `+` after the commit means that files differ from it. It is asked for when the commit, an archive or a source linked here changes.
     let commit = git(&["describe", "--always", "--dirty=+"]);
     let head = git(&["rev-parse", "--path-format=absolute", "--git-path", "logs/HEAD"]);
-    for path in ["src", "../cablesalak/src", "../proof/src", "../small/src"].into_iter().chain(head.as_deref()) {
+    for path in ["src", "../cablesalak/src", "../explain/src", "../proof/src", "../small/src"]
+        .into_iter()
+        .chain(head.as_deref())
+    {
         println!("cargo:rerun-if-changed={path}");
     }
     println!("cargo:rerun-if-env-changed={FOLDER}");

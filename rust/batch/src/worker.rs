@@ -14,7 +14,7 @@ use std::thread;
 use std::time::Duration;
 
 /// Enough for a check, whose calls take less than 1.25 MiB, whatever `ulimit -s` says.
-const STACK: usize = 4 << 20;
+pub const STACK: usize = 4 << 20;
 /// How often a worker looks whether its pool is still there.
 const LOOK: Duration = Duration::from_millis(250);
 /// The first word of a worker's command line.

@@ -83,6 +83,8 @@ fn the_demonstration() {
         "<code>0 87 5 4 36</code>, records, run 1",
         "SHA-256 <code>acf7ab47fc8d5827e90c1d5950aacff1054ee9e92dc1df5afda61c2249c793dd</code>",
         "<strong>Nobody shows here</strong>",
+        "The witness does not make the line true: it is false where no fact is true.",
+        "Where the line is false, these literals follow by unit propagation:<br>\nround 1: 5 (“a newcomer”)<br>",
     ];
     for text in wanted {
         assert!(page.contains(text), "{text}");
@@ -154,6 +156,38 @@ fn what_is_missing_is_told() {
     assert!(said.contains("always one of"));
     fs::write(folder.join("case-a.cnf"), "p cnf 1 1\n1 0\n").unwrap();
     assert!(!page(&folder, &["results"]).contains("always one of"));
+}
+
+/// The cause is told only of a refusal that the library repeats, of the bytes that were checked, and not where the check took long.
+#[test]
+fn causes() {
+    let folder = folder("causes");
+    fs::write(folder.join("a.cnf"), "c fact 2 <b>\np cnf 2 2\n1 2 0\n-1 2 0\n").unwrap();
+    fs::write(folder.join("a.proof"), b"\x4E\x01\0\0\x01\0\x52\x02\0\x45").unwrap();
+    all(&folder, &["-q", "-o", "results", "."]);
+    let text = fs::read_to_string(folder.join("results")).unwrap();
+    let page_of = |name: &str, text: &str| {
+        fs::write(folder.join(name), text).unwrap();
+        let made = page(&folder, &[name]);
+        is_sound(&made);
+        made
+    };
+    let told = "Where the line is false, these literals follow by unit propagation:<br>\nround 1: 2 (“&lt;b&gt;”)<br>";
+    assert!(page_of("same", &text).contains(told));
+    // Another number or place than the library's, and a slow check.
+    for (from, to) in [("\"number\":19", "\"number\":18"), ("\"place\":6", "\"place\":7")] {
+        assert_ne!(text.replace(from, to), text);
+        assert!(!page_of("other", &text.replace(from, to)).contains("unit propagation:<br>"));
+    }
+    let seconds = text.split("\"seconds\":").nth(1).unwrap().split('}').next().unwrap();
+    let slow = page_of("slow", &text.replace(&format!("\"seconds\":{seconds}"), "\"seconds\":16.8"));
+    assert!(slow.contains("The check took long") && !slow.contains("unit propagation:<br>"));
+    // A small stack; then another file.
+    let small = "ulimit -s 256; exec \"$0\" results";
+    let output = Command::new("bash").current_dir(&folder).args(["-c", small, PAGE]).output().unwrap();
+    assert!(output.status.success() && String::from_utf8(output.stdout).unwrap().contains(told));
+    fs::write(folder.join("a.proof"), b"\x52\0\0\x45").unwrap();
+    assert!(!page_of("same", &text).contains("unit propagation:<br>"));
 }
 
 /// A clause of a DRAT proof is drawn too; a long name is cut in the picture and whole in the words.

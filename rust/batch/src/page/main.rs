@@ -2,6 +2,7 @@
 //!
 //! Verdicts are the results'. Formulas and proofs are read again for their words, where their bytes are still those that were checked.
 
+mod cause;
 mod page;
 mod pair;
 mod question;
@@ -11,10 +12,12 @@ mod sentence;
 
 use batch::check::VERSION;
 use batch::record::{ARCHIVE, COMMIT};
+use batch::worker::STACK;
 use std::env;
 use std::ffi::OsString;
 use std::io::{self, Write};
 use std::process::ExitCode;
+use std::thread;
 
 const USAGE: &str = "usage: refute-page RESULTS.. >PAGE.html
   RESULTS  files that refute-all wrote (-o, -r)
@@ -46,7 +49,10 @@ fn main() -> ExitCode {
         let _ = writeln!(io::stderr(), "{USAGE}");
         return ExitCode::from(2);
     }
-    match read::read(&names).and_then(|results| write(&page::page(&results))) {
+    // On a stack that is enough for the library's calls, whatever `ulimit -s` says.
+    let made = thread::Builder::new().stack_size(STACK).spawn(move || Ok(page::page(&read::read(&names)?)));
+    let made = made.and_then(|made| made.join().unwrap_or(Err(io::ErrorKind::Other.into())));
+    match made.and_then(|page| write(&page)) {
         Ok(()) => ExitCode::SUCCESS,
         Err(error) => {
             let _ = writeln!(io::stderr(), "refute-page: {error}");

@@ -56,6 +56,14 @@ impl Pair {
         self.result.number(name).unwrap_or(0)
     }
 
+    /// How long the check took.
+    pub fn seconds(&self) -> f64 {
+        match self.result.get("seconds") {
+            Some(Value::Number(seconds)) => *seconds,
+            _ => 0.0,
+        }
+    }
+
     pub fn class(&self) -> Class {
         Class::of(self.text("outcome"))
     }

@@ -1,13 +1,12 @@
 //! Why a proof is refused: the sentence, the place, and what stands there.
 
+use crate::cause::cause;
 use crate::pair::Pair;
 use crate::sentence::sentence;
-use batch::check::explained;
-use batch::form::Form;
 use explain::line::{self, Found};
 use explain::text::escaped;
-use explain::{binary, cause, picture};
-use proof::{Diagram, Diagrams, Record};
+use explain::{binary, picture};
+use proof::{Diagram, Diagrams};
 
 /// The most bytes of a text that are quoted before the place, and after it.
 const BEFORE: usize = 200;
@@ -42,21 +41,6 @@ pub fn refusal(pair: &Pair, id: usize) -> String {
         },
     };
     format!("{head}{body}{}\n", cause(pair).unwrap_or_default())
-}
-
-/// The cause in sentences, by the proved library, where there is more to say than the number and the files are those that were checked.
-fn cause(pair: &Pair) -> Option<String> {
-    let (formula, proof, settings) = (pair.formula.as_ref()?, pair.proof.as_ref()?, pair.settings?);
-    let form = Form::named(pair.text("form").as_bytes())?;
-    let why = explained(settings, form, formula, proof)?;
-    if u64::from(why.number.code()) != pair.number("number") || why.place as u64 != pair.number("place") {
-        return None;
-    }
-    let found = if form == Form::Records { line::find(proof, why.place) } else { None };
-    let is_path = matches!(found, Some(Found { record: Some(Record::Path { .. }), .. }));
-    let lines = cause::sentences(&pair.words, &why.cause, is_path);
-    let said: Vec<String> = lines.iter().map(|line| escaped(line.trim_start())).collect();
-    (!said.is_empty()).then(|| format!("\n<p>{}</p>", said.join("<br>")))
 }
 
 /// The line of a text that has the place, and the word there marked.
