@@ -2,14 +2,14 @@
 -- it. The idea: no formula and no proof is refused with 7, so that the check's number tells the sizes. Assumes nothing.
 use mathlib.Core.Path.{_≡_, refl, sym, ap, ap₂, _∙_, subst}
 use mathlib.Core.Logic.{_≢_}
-use mathlib.Core.Bool.{Bool, true, false, _&&_, cond}
-use mathlib.Core.List.{List, [], _∷_, _++_}
+use mathlib.Core.Bool.{Bool, true, false, cond}
+use mathlib.Core.List.{List, _++_}
 use Prim.Native.Nat.{ℕ, _-_, _≤_, _<_}
 use native.Mathlib.Omega.{arith}
 use lib.ListN.{length}
 use lib.Dec.{eqb, leb}
 use borrow.Author.Tests.{leb-true, le-leb, lt-leb}
-use Rattle.meaning.proofs.Booleans.{t≢f, and-both, and-false}
+use Rattle.meaning.proofs.Booleans.{and-both, and-false}
 use Rattle.table.specs.Columns.{sizeFits, Columns, storedAs}
 use Rattle.table.proofs.Sizes.{Sized, sized}
 use Rattle.commands.specs.declared.Mode.{Mode}
@@ -19,14 +19,12 @@ use Rattle.verdict.proofs.Numbers.{Closed, formula-refused, proof-ended, proof-
 use Rattle.state.specs.States.{lentOf}
 use Rattle.session.specs.declared.Checked.{Checked}
 use Rattle.session.specs.Checked.{checkOutcome}
-use Rattle.session.proofs.Finish.{answer}
 use Rattle.check_call.proofs.Sizes.{called-7, called-done}
 use Rattle.causes.specs.Parts.{nothing}
 use Rattle.causes.specs.Causes.{plain}
 use Rattle.causes.specs.Explanation.{Explanation, explained, explanation}
-use Rattle.causes.specs.Answers.{Told, told, WhyOutcome, answered, unanswered, why}
+use Rattle.causes.specs.Answers.{told, WhyOutcome, answered, unanswered, why}
 use Rattle.line_again.specs.Made.{LeftBy}
-use Rattle.explain.specs.declared.Why.{Why}
 use Rattle.explain.specs.Why.{whyOutcome, explainedIn, whyNothing}
 use Rattle.explain.proofs.Explaining.{explanation-thirty}
 

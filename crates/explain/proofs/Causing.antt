@@ -1,15 +1,15 @@
 -- The cause of a refused command, told over the state made again: what the functions ask, that what they tell is the definition's, and that
 -- the lists are then as the check left them. Assumes nothing.
-use mathlib.Core.Path.{_≡_, refl, sym, ap, ap₂, _∙_, subst}
+use mathlib.Core.Path.{_≡_, sym, ap, ap₂, _∙_, subst}
 use mathlib.Core.Bool.{Bool, true, false}
-use mathlib.Core.List.{List, _++_}
+use mathlib.Core.List.{List}
 use Prim.Native.Nat.{ℕ, _-_, _≤_, _<_}
 use native.Mathlib.Omega.{arith}
 use lib.ListN.{length, take, length-replicate}
 use lib.Seq.{length-take-le}
 use Rattle.meaning.specs.Words.{inWord}
 use Rattle.table.specs.Nodes.{Node}
-use Rattle.table.specs.Columns.{Columns, columnsMade, storedAs}
+use Rattle.table.specs.Columns.{Columns, columnsMade}
 use Rattle.table.specs.Indexed.{Table, listsOf, nodesOf, indexed, Good}
 use Rattle.table.proofs.InOrder.{left-stored}
 use Rattle.walks.specs.Readable.{Roomy}
@@ -30,16 +30,16 @@ use Rattle.state.specs.States.{Lent, lentOf, tableIn, stateOf, Held}
 use Rattle.tries.specs.Commands.{CommandFits}
 use Rattle.session.specs.declared.Checked.{Checked}
 use Rattle.causes.specs.Causes.{cause}
-use Rattle.causes.specs.Explanation.{Ending, ended, causeIn, ending}
+use Rattle.causes.specs.Explanation.{ended, causeIn, ending}
 use Rattle.causes.specs.Answers.{Told, told}
 use Rattle.record_causes.proofs.Witnesses.{reached-witness}
 use Rattle.line_again.specs.declared.Again.{Again}
-use Rattle.line_again.specs.Before.{SameBut, hasCause}
+use Rattle.line_again.specs.Before.{hasCause}
 use Rattle.line_again.specs.Made.{LeftBy, MadeAgain}
 use Rattle.line_again.proofs.Twice.{cause-same}
 use Rattle.line_again.proofs.Refusals.{RefusedAt, stops-again, spends-again}
 use Rattle.line_again.proofs.Making.{at-place, kept-is}
-use Rattle.explain.specs.Stub.{RefusedWith, RefusedBy}
+use Rattle.command_causes.specs.Causes.{RefusedWith, RefusedBy}
 
 known-fits : (n : ℕ) (c : Command) → Known n c → CommandFits n c
 known-fits n (recorded r more) known = tt
@@ -92,7 +92,8 @@ module _ (mode : Mode) (text proof : List ℕ) (l : Lent) (r : Checked)
         ≡ admitted (mode .consequence) (commandOf (commandAt (mode .form) proof (b .variables) (r .place) .command))) where
       command-is : admitted (mode .consequence) (commandOf c) ≡ command
       command-is =
-          sym (read ∙ ap₂ (λ (n at : ℕ). admitted (mode .consequence) (commandOf (commandAt (mode .form) proof n at .command))) (M .variables)
+          sym (read ∙ ap₂ (λ (n at : ℕ). admitted (mode .consequence) (commandOf (commandAt (mode .form) proof n at .command)))
+          (M .variables)
           place-is)
 
       -- the refusal in the state made again, over any size and number that are the same

@@ -1,17 +1,15 @@
 -- What is said of a refused check: its piece, and the cause, where there is one beside the number. Assumes nothing.
 use mathlib.Core.Path.{_≡_, refl, sym, ap, ap₂, _∙_, subst}
 use mathlib.Core.Logic.{_≢_}
-use mathlib.Core.Bool.{Bool, true, false, cond}
+use mathlib.Core.Bool.{Bool, false}
 use mathlib.Core.List.{List}
 use Prim.Native.Nat.{ℕ, _≤_}
 use native.Mathlib.Omega.{arith}
 use lib.ListN.{length}
-use lib.Dec.{eqb}
 use borrow.Author.Tests.{eq-eqb, ne-eqb}
-use Rattle.table.specs.Columns.{Columns, columnsMade}
+use Rattle.table.specs.Columns.{Columns}
 use Rattle.commands.specs.declared.Mode.{Mode}
 use Rattle.verdict.specs.Check.{Verdict, verdict, zeros}
-use Rattle.state.specs.States.{Lent}
 use Rattle.session.specs.declared.Checked.{Checked}
 use Rattle.causes.specs.Parts.{Part, nothing, partOf}
 use Rattle.causes.specs.Causes.{Cause, plain}
@@ -22,8 +20,8 @@ use Rattle.causes.proofs.Causes.{cause-plain}
 use Rattle.causes.proofs.Pieces.{piece-inside}
 use Rattle.pieces.specs.Shown.{pieceEnd}
 use Rattle.line_again.specs.Before.{hasCause}
-use Rattle.explain.specs.declared.Cause as code
-use Rattle.explain.specs.Stub.{toldBy}
+use Rattle.command_causes.specs.declared.Cause as code
+use Rattle.command_causes.specs.Causes.{toldBy}
 use Rattle.explain.specs.Why.{whyOutcome, explainedIn, noCause, whyOf}
 
 -- nothing told beside the number
@@ -74,7 +72,8 @@ module _ (mode : Mode) (s : ℕ) (formula proof : List ℕ) where
         unfolding partOf
         piece-is to e =
             ap shownTo e
-            ∙ ap (λ (k : ℕ). piece k (r .«in_proof») (r .place)) number-is ∙ ap₂ (λ (b : Bool) (k : ℕ). piece (v .number) b k) in-proof-is place-is
+            ∙ ap (λ (k : ℕ). piece k (r .«in_proof») (r .place)) number-is
+            ∙ ap₂ (λ (b : Bool) (k : ℕ). piece (v .number) b k) in-proof-is place-is
           where
             piece : ℕ → Bool → ℕ → Part
             piece number b at = record { inProof = b; start = at; end = pieceEnd (mode .form) formula proof number b at }

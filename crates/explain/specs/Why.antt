@@ -1,15 +1,14 @@
 -- What the call says, with every lent list as it leaves it.
-use mathlib.Core.Bool.{Bool, false}
+use mathlib.Core.Bool.{false}
 use mathlib.Core.List.{List}
 use Prim.Native.Nat.{ℕ}
 use Rattle.table.specs.Columns.{Columns}
 use Rattle.session.specs.declared.Checked.{Checked}
-use Rattle.causes.specs.Parts.{Part}
 use Rattle.causes.specs.Explanation.{Explanation}
 use Rattle.causes.specs.Answers.{Told, WhyOutcome}
-use Rattle.explain.specs.declared.Cause.{Cause}
+use Rattle.command_causes.specs.declared.Cause.{Cause}
+use Rattle.command_causes.specs.Causes.{ofNumbers}
 use Rattle.explain.specs.declared.Why.{Why}
-use Rattle.explain.specs.Stub.{toldBy}
 
 -- The columns, members, marks and scratch list, the words for the literals, and what is returned.
 abbrev pub whyOutcome : Columns → List ℕ → List ℕ → List ℕ → List ℕ → Why → WhyOutcome
@@ -49,7 +48,7 @@ explainedIn e t count columns members struck scratch = record {
 
 -- No cause beside the number.
 abbrev pub noCause : Cause
-noCause = record { variable = 0; child = 0; word = 0; rounds = 0; «has_member» = false; member = 0 }
+noCause = ofNumbers 0 0 0
 
 -- An empty part and no cause.
 abbrev pub whyNothing : ℕ → ℕ → Why

@@ -1,13 +1,13 @@
 // The call that explains a refusal: the check, the piece at its place, and the cause over what it leaves. (02, 8/14)
-use crate::Cause;
 use crate::Why;
+use command_causes::Cause;
 use commands::Command;
 use commands::Mode;
 use session::Checked;
 ghost use mathlib.Core.Path.{_≡_};
 ghost use mathlib.Core.Logic.{_≢_};
 ghost use mathlib.Core.Bool.{true};
-ghost use Prim.Native.Nat.{ℕ, _≤_};
+ghost use Prim.Native.Nat.{_≤_};
 ghost use lib.ListN.{length};
 ghost use Rattle.table.specs.Columns.{columnsMade};
 ghost use Rattle.walks.specs.Readable.{Roomy};
@@ -21,7 +21,7 @@ ghost use Rattle.causes.specs.Explanation.{causeIn, ending, explanation};
 ghost use Rattle.causes.specs.Answers.{told, why};
 ghost use Rattle.line_again.specs.Before.{hasCause};
 ghost use Rattle.line_again.specs.Made.{LeftBy};
-ghost use Rattle.explain.specs.Stub.{toldBy};
+ghost use Rattle.command_causes.specs.Causes.{toldBy};
 ghost use Rattle.explain.specs.Why.{whyOutcome, explainedIn, noCause, whyNothing, whyOf};
 
 // The memo's cells: those that a table of 65,536 places needs.
@@ -177,7 +177,7 @@ fn cause_over<'a>(
     let variables = again.variables;
     let st = again.state;
     let command = command_in(proof, place, variables, mode);
-    let cause = crate::stub::cause(
+    let cause = command_causes::command::cause(
         vars,
         lows,
         highs,
@@ -324,7 +324,7 @@ fn explained<'a>(
 }
 
 // The check of a formula and a proof, and why it refuses. `fixed` is for the literals that 19's cause lists: 128 words or more, two for
-// each round, those made true and those made false. What it says and leaves is the definition's. `pieces::shown` gives the part that it
+// each round, those made true and those made false. What it says and leaves is the definition's. `shown` gives the part that it
 // names as a part of the caller's own bytes.
 pub fn why<'a>(
     vars: &mut [u8],

@@ -1,8 +1,8 @@
 -- From what the check leaves to the state before the refused command: the lists hold it as its line began; in DRAT that is the state, in
 -- records the line's records done again give it, and leave members and marks. Assumes nothing.
 use mathlib.Core.Path.{_≡_, refl, sym, ap, ap₂, _∙_, subst}
-use mathlib.Core.Bool.{Bool, true, false}
-use mathlib.Core.List.{List, [], _∷_, _++_}
+use mathlib.Core.Bool.{true, false}
+use mathlib.Core.List.{List, _++_}
 use Prim.Native.Nat.{ℕ, _+_, _-_, _≤_, _<_}
 use native.Mathlib.Omega.{arith}
 use lib.ListN.{length, getD, take}
@@ -24,7 +24,6 @@ use Rattle.commands.specs.declared.Mode.{Mode}
 use Rattle.commands.specs.Commands.{isDrat, inForm}
 use Rattle.verdict.specs.Steps as check
 use Rattle.verdict.specs.Check.{Verdict, verdict, zeros}
-use Rattle.verdict.specs.Taken.{Meant}
 use Rattle.verdict.specs.Run.{Reached}
 use Rattle.verdict.proofs.Standing.{Standing}
 use Rattle.verdict.proofs.Ends.{reached-in, reached-standing}
@@ -38,7 +37,7 @@ use Rattle.tell.specs.Begun.{lineState, lineRest}
 use Rattle.tell.proofs.Counted.{Counted, reached-counted}
 use Rattle.tell.proofs.Begun.{LeftOf, SameLine, begun-held, begun-is, start-is, start-walks, remakes, remade-same}
 use Rattle.line_again.specs.declared.Again.{Again}
-use Rattle.line_again.specs.Before.{withCounts, SameBut, hasCause}
+use Rattle.line_again.specs.Before.{SameBut, hasCause}
 use Rattle.line_again.specs.Made.{LeftBy, begunBy, MadeAgain}
 use Rattle.line_again.proofs.Refusals.{RefusedAt, refused-at}
 use Rattle.line_again.proofs.Fresh.{Fresh, reached-fresh}
@@ -152,7 +151,8 @@ module _ (mode : Mode) (text proof : List ℕ) (l : Lent) (count lines place : �
       ∙ ap (λ (m : ℕ). beginning (lineState (st .kept) m (st .lines))) (sym (counted .counted))
 
   held : Held n l first
-  held = begun-held s (length (l .members)) (length (l .scratch)) (L .two) (L .most) (L .wide) (L .long) n (standing .0) st (at-place .meant)
+  held = begun-held s (length (l .members)) (length (l .scratch)) (L .two) (L .most) (L .wide) (L .long) n (standing .0) st
+      (at-place .meant)
       (standing .1) l left
 
   begins-as : stateOf l first ≡ onLine (lineRest l (st .kept) (length (st .members)) (st .lines)) (asBegun st)
@@ -232,7 +232,8 @@ module _ (mode : Mode) (text proof : List ℕ) (l : Lent) (count lines place : �
         remade : Remakes n s proof (stateOf l first) from place
         remade =
             subst (λ (k : ℕ). Remakes n s proof (stateOf l first) k place)
-            (sym (from-is ∙ start-is s (length (l .members)) (length (l .scratch)) (L .two) (L .most) (L .wide) (L .long) (mode .consequence)
+            (sym (from-is ∙ start-is s (length (l .members)) (length (l .scratch)) (L .two) (L .most) (L .wide) (L .long)
+            (mode .consequence)
             text proof reached l left))
             (remakes s (length (l .members)) (length (l .scratch)) (L .two) (L .most) (L .wide) (L .long) (mode .consequence) text proof
             reached l left)
@@ -266,7 +267,8 @@ module _ (mode : Mode) (text proof : List ℕ) (l : Lent) (count lines place : �
               (sym (again-is ∙ ap (λ (k : ℕ). again place n s proof (stateOf l first) k place)
               (from-is ∙ start-is s (length (l .members)) (length (l .scratch)) (L .two) (L .most) (L .wide) (L .long) (mode .consequence)
               text proof reached l left)))
-              (remade-same s (length (l .members)) (length (l .scratch)) (L .two) (L .most) (L .wide) (L .long) (mode .consequence) text proof
+              (remade-same s (length (l .members)) (length (l .scratch)) (L .two) (L .most) (L .wide) (L .long) (mode .consequence) text
+              proof
               reached l left)
 
           lines-same : q .lines ≡ st .lines

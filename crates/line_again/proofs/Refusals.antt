@@ -3,16 +3,14 @@
 use mathlib.Core.Path.{_≡_, refl, sym, ap, _∙_, subst}
 use mathlib.Core.Logic.{_≢_}
 use mathlib.Core.Bool.{Bool, true, false, _||_}
-use mathlib.Core.List.{List, [], _∷_}
+use mathlib.Core.List.{List}
 use Prim.Native.Nat.{ℕ, _+_, _≤_}
 use native.Mathlib.Omega.{arith}
-use lib.ListN.{length, take}
+use lib.ListN.{take}
 use lib.Dec.{eqb}
-use Rattle.meaning.proofs.Booleans.{or-cases, eqb-eq, t≢f}
-use Rattle.table.specs.Nodes.{Node}
-use Rattle.commands.specs.declared.Form.{Form}
+use Rattle.meaning.proofs.Booleans.{or-cases, eqb-eq}
 use Rattle.commands.specs.declared.Mode.{Mode}
-use Rattle.commands.specs.Commands.{Command, recorded, added, struckOut, wrong, finished, isDrat}
+use Rattle.commands.specs.Commands.{Command}
 use Rattle.verdict.specs.Steps.{State, Step, stop, spent}
 use Rattle.verdict.specs.Check.{step, Verdict, verdict}
 use Rattle.verdict.specs.Taken.{Meant}
@@ -67,7 +65,8 @@ module _ (mode : Mode) (s : ℕ) (text proof : List ℕ) where
       → step (mode .consequence) n s st (commandIn mode proof n at) ≡ stop number offset → hasCause number ≡ true
       → (number ≢ 19) × (offset ≡ 0)
   stopped-at n number offset at st m R e h =
-      let (other, first, _) = subst (λ (x : Step). Twice x (step (mode .consequence) n s (withCounts st 0 0 false) (commandIn mode proof n at)))
+      let (other, first, _) = subst (λ (x : Step). Twice x
+      (step (mode .consequence) n s (withCounts st 0 0 false) (commandIn mode proof n at)))
       e (twice-at R 0 0 false) h in (other, first)
 
   spent-at : (n number peak at : ℕ) (st : State) (m : Meant) → Reached mode s text proof n st at m
@@ -76,7 +75,8 @@ module _ (mode : Mode) (s : ℕ) (text proof : List ℕ) where
       subst (λ (x : Step). Twice x (step (mode .consequence) n s (withCounts st 0 0 false) (commandIn mode proof n at)))
       e (twice-at R 0 0 false) h .0
 
-  ends-at : (v : Verdict) (x : Ending) → ending mode s text proof ≡ x → EndsAt mode s text proof v x → hasCause (v .number) ≡ true → RefusedAt v
+  ends-at : (v : Verdict) (x : Ending) → ending mode s text proof ≡ x → EndsAt mode s text proof v x → hasCause (v .number) ≡ true →
+      RefusedAt v
   ends-at _ _ is (formula-refused {number} k i) h = no-formula number (k .1) h
   ends-at _ _ is (proof-stopped {n} {number} {offset} {at} {st} {m} R e) h =
       let (other, first) = stopped-at n number offset at st m R e h in

@@ -27,7 +27,7 @@ use Rattle.records.specs.declared.Record.the-variants.{NoRecord}
 use Rattle.clausal.specs.Tries.{makesTrue, makesFalse, witness}
 use Rattle.commands.specs.Commands.{Command, recorded, added, struckOut, wrong, finished}
 use Rattle.verdict.specs.Steps.{State, withEntry, Step, next, stop, spent, isEntry, entryNode, isVariable, entered, nodeStep, witnessStep}
-use Rattle.verdict.specs.Steps.{waiting, judged, diagramIn, unstruck, liveMembers, lineStep, isLive, strikeStep, beyond, noParity}
+use Rattle.verdict.specs.Steps.{waiting, judged, diagramIn, liveMembers, lineStep, isLive, strikeStep, beyond, noParity}
 use Rattle.verdict.specs.Steps.{setDiagram, setStep, endStep, recordStep}
 use Rattle.verdict.specs.Clausal.{withPeak, judgedOr, secondLine, secondTry, afterFirst, tries, onceMade, addStep, firstSame, strikeFound}
 use Rattle.verdict.specs.Clausal.{strikeClause}
@@ -154,7 +154,8 @@ module _ (rounds peak : ℕ) (refuted : Bool) where
         (tests (not (first .shown)) _ _ _ _ (after-twice profile k ls _ _) tt)
 
 module _ (rounds peak : ℕ) (refuted : Bool) (n s : ℕ) (st : State) where
-  added-twice : (profile : Bool) (ls : List Literal) → Twice (addStep profile n s st ls) (addStep profile n s (also rounds peak refuted st) ls)
+  added-twice : (profile : Bool) (ls : List Literal) → Twice (addStep profile n s st ls)
+      (addStep profile n s (also rounds peak refuted st) ls)
   unfolding addStep
   added-twice profile ls =
       passes (leb 1024 (st .lines)) 22 0 _ _ refl
@@ -198,7 +199,8 @@ module _ (rounds peak : ℕ) (refuted : Bool) (n : ℕ) (st : State) where
   unshown-same zero P N ms i = refl
   unshown-same (suc k) P N ms i =
       let f : Diagram = diagramIn st (getD (st .members) i 0) in
-      ap (λ (later : Cause). cond (isLive st i && not (prTurns n P N ms (f ∷ []) .shown)) (fixed (fixes n (turnMembers n P N ms f)) (some i))
+      ap (λ (later : Cause). cond (isLive st i && not (prTurns n P N ms (f ∷ []) .shown))
+      (fixed (fixes n (turnMembers n P N ms f)) (some i))
       later) (unshown-same k P N ms (suc i))
 
   pr-same : (P N : ℕ → Bool) (g : Diagram) → prCause n P N x g ≡ prCause n P N st g
@@ -209,7 +211,8 @@ module _ (rounds peak : ℕ) (refuted : Bool) (n : ℕ) (st : State) where
   unfolding lineCause
   line-same number Rup g = refl
   line-same number Pr g =
-      ap (λ (c : Cause). cond (eqb number 18) (assignment (smallest n (inWord (st .positive)) (inWord (st .negative)) g)) (only 19 number c))
+      ap (λ (c : Cause). cond (eqb number 18) (assignment (smallest n (inWord (st .positive)) (inWord (st .negative)) g))
+      (only 19 number c))
       (pr-same (inWord (st .positive)) (inWord (st .negative)) g)
   line-same number Path g = refl
 

@@ -17,7 +17,8 @@ admitted-requires c κs =
 returns : tie.Need-returns
 returns c =
     c .admitted .ensures
-    ∙ ap (λ (x : code-read.Read). admitted ((c .before .before .before) .args .mode .consequence) (x .command)) ((c .before) .command-at .ensures)
+    ∙ ap (λ (x : code-read.Read). admitted ((c .before .before .before) .args .mode .consequence) (x .command))
+    ((c .before) .command-at .ensures)
 
 pub command-in-spec : {M : Type 1} → statement M
 command-in-spec =

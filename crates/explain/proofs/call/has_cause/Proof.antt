@@ -1,5 +1,4 @@
 -- `has_cause` is the definition's test. Assumes nothing.
-use borrow.Author.Needs.{needs}
 use borrow.Author.Tests.{eq-eqb, ne-eqb}
 use Rattle.explain.proofs.call.has_cause.Statement.{statement}
 use Rattle.explain.proofs.call.has_cause.Tie as tie

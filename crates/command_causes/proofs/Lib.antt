@@ -1,0 +1,4 @@
+pub mod Sorting
+pub mod Told
+pub mod Lines
+pub mod Commands
