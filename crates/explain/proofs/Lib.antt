@@ -1,0 +1,4 @@
+pub mod Explaining
+pub mod Calls
+pub mod Causing
+pub mod Reading
