@@ -41,8 +41,20 @@ pub fn pairs(random: &mut Random) -> [Pair; 2] {
     [first, second]
 }
 
-/// A pair of the comparison's checks, of moderate length.
+/// One entry too many in a line, or lines too many of a book that has an empty clause, so that every line passes.
+fn limits(random: &mut Random) -> Pair {
+    let proof = match random.below(3) {
+        0 => b"\x52\0\0".repeat(random.between(1_023, 1_026)),
+        _ => [b"\x58\0\0\0\0\0\0\0\0\0".repeat(random.between(4_095, 4_098)), b"\x52\0\0".to_vec()].concat(),
+    };
+    Pair { formula: b"p cnf 1 1\n0\n".to_vec(), proof: [proof, b"\x45".to_vec()].concat() }
+}
+
+/// A pair of the comparison's checks, of moderate length; one in a thousand is at a limit.
 fn pair(random: &mut Random) -> Pair {
+    if random.below(1_000) == 0 {
+        return limits(random);
+    }
     let most = if random.percent(2) { 20_000 } else { 1_200 };
     loop {
         for command in check::commands(random) {
