@@ -102,8 +102,11 @@ fn pieces(proof: &[u8]) -> Vec<Vec<u8>> {
 /// The calls of a pair, some of them with a fault that only calls can have.
 fn calls(random: &mut Random, pair: &Pair) -> Vec<Vec<u8>> {
     let mut calls = vec![pair.formula.clone()];
-    for mut piece in pieces(&pair.proof) {
-        match random.below(60) {
+    let pieces = pieces(&pair.proof);
+    // A long proof comes to its end.
+    let often = 60.max(20 * pieces.len());
+    for mut piece in pieces {
+        match random.below(often) {
             0 => piece.push(random.pick(&[0x45, 0x52, 0x4E, 0])),
             1 => piece.truncate(piece.len().saturating_sub(3)),
             2 => piece.clear(),
