@@ -41,8 +41,20 @@ pub fn pairs(random: &mut Random) -> [Pair; 2] {
     [first, second]
 }
 
-/// A pair of the comparison's checks, of moderate length.
+/// One entry too many in a line, or lines too many of a book that has an empty clause, so that every line passes.
+fn limits(random: &mut Random) -> Pair {
+    let proof = match random.below(3) {
+        0 => b"\x52\0\0".repeat(random.between(1_023, 1_026)),
+        _ => [b"\x58\0\0\0\0\0\0\0\0\0".repeat(random.between(4_095, 4_098)), b"\x52\0\0".to_vec()].concat(),
+    };
+    Pair { formula: b"p cnf 1 1\n0\n".to_vec(), proof: [proof, b"\x45".to_vec()].concat() }
+}
+
+/// A pair of the comparison's checks, of moderate length; one in a thousand is at a limit.
 fn pair(random: &mut Random) -> Pair {
+    if random.below(1_000) == 0 {
+        return limits(random);
+    }
     let most = if random.percent(2) { 20_000 } else { 1_200 };
     loop {
         for command in check::commands(random) {
@@ -90,8 +102,11 @@ fn pieces(proof: &[u8]) -> Vec<Vec<u8>> {
 /// The calls of a pair, some of them with a fault that only calls can have.
 fn calls(random: &mut Random, pair: &Pair) -> Vec<Vec<u8>> {
     let mut calls = vec![pair.formula.clone()];
-    for mut piece in pieces(&pair.proof) {
-        match random.below(60) {
+    let pieces = pieces(&pair.proof);
+    // A long proof comes to its end.
+    let often = 60.max(20 * pieces.len());
+    for mut piece in pieces {
+        match random.below(often) {
             0 => piece.push(random.pick(&[0x45, 0x52, 0x4E, 0])),
             1 => piece.truncate(piece.len().saturating_sub(3)),
             2 => piece.clear(),
