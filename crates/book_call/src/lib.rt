@@ -75,22 +75,6 @@ pub fn call(
     if !holding_fits(members, struck, own, vars.len(), count, b) {
         return book_line::back::unfit(count, b);
     }
-    if vars.len() <= 64 {
-        return book_sizes::sizes::call_64(
-            vars,
-            lows,
-            highs,
-            heads,
-            links,
-            own,
-            members,
-            struck,
-            scratch,
-            count,
-            b,
-            bytes,
-        );
-    }
     if vars.len() <= 4096 {
         return book_sizes::sizes::call_4096(
             vars,

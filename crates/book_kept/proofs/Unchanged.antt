@@ -1,34 +1,37 @@
--- A call that says 7 or 26, and one of a bound book, leaves every lent place and every field of what is kept as it was lent, whatever is
--- lent. The idea: a call that changes anything says 35, or a number of the check, which is neither 7 nor 26. Assumes nothing.
+-- A call that says 7 or 26, one of a bound book, and a refused opening leave every lent place and every field of what is kept as it was
+-- lent, whatever is lent. The idea: a call that changes anything says 35, or a number of the check, which is neither 7 nor 26. Assumes
+-- nothing.
 use mathlib.Core.Path.{_≡_, refl, sym, ap, _∙_, subst}
 use mathlib.Core.Logic.{_≢_, _⊎_, inl, inr}
-use mathlib.Core.Bool.{Bool, true, false, not, cond}
+use mathlib.Core.Bool.{Bool, true, false, not, _&&_, cond}
 use mathlib.Core.List.{List, []}
 use mathlib.Core.Option.{Option, none, some}
 use Prim.Native.Nat.{ℕ, zero, suc, _+_, _-_, _≤_}
 use native.Mathlib.Omega.{arith}
 use lib.ListN.{length, take, drop}
-use lib.Dec.{ltb}
+use lib.Dec.{ltb, leb}
 use Rattle.table.specs.Nodes.{Node}
 use Rattle.table.specs.Index.{goodOrder}
-use Rattle.table.specs.Columns.{rows, Columns}
+use Rattle.table.specs.Columns.{rows, Columns, storedAs}
 use Rattle.table.specs.Making.{Room, short, all}
 use Rattle.records.specs.declared.Record.{Record}
 use Rattle.records.specs.Records.{recordAt, lengthOf}
-use Rattle.verdict.specs.Steps.{State, Step, next, stop, spent}
+use Rattle.verdict.specs.Steps.{State, Step, next, stop, spent, emptied}
+use Rattle.verdict.specs.Check.{zeros}
 use Rattle.shares.specs.declared.Stage.{Stage}
 use Rattle.shares.specs.declared.Stage.the-variants.{Formula, Lines, Bound}
 use Rattle.shares.specs.declared.Book.{Book}
 use Rattle.shares.specs.Shares.{Shared, sharing}
 use Rattle.shares.specs.Alone.{Answer, Alone, Result, places, isLine, bookStep, Ending, ended, taken, afterStep, lineCall, stateOf}
-use Rattle.shares.specs.Alone.{afterEnding, byStage, aloneCall, openedAlone}
+use Rattle.shares.specs.Alone.{afterEnding, byStage, aloneCall, openedBook, openedAlone}
 use Rattle.shares.specs.Books.{Holding, Called, holdingFits, ownTable, aloneOf, sharedAfter, refusedAfter, isAccepted, judged, charged}
 use Rattle.shares.specs.Books.{bookCall, unfit}
 use Rattle.shares.specs.Books.{BookLists, bookFits, holding, BookOutcome, unchanged, bookLeaves, bookOutcome, bookOutcomeAt, refusal}
+use Rattle.shares.specs.Books.{OpenOutcome, emptiedLists, unopened, openOutcome}
 use Rattle.shares.proofs.Sane.{Settled, StepSettled, book-settled, alone-goes, opened-sane}
 use Rattle.book_kept.specs.declared.Kept.{Kept}
 use Rattle.book_kept.specs.Kept.{stageOf, bookOf}
-use Rattle.book_kept.specs.Calls.{KeptOutcome, keptOutcome, keptCall}
+use Rattle.book_kept.specs.Calls.{KeptOutcome, keptOutcome, keptCall, KeptOpening, openingBy, keptOpening}
 use Rattle.book_kept.proofs.Forms.{is-bound, kept-same}
 
 -- ---- the numbers of a call that changes something
@@ -199,3 +202,38 @@ module _ (c : Columns) (count : ℕ) (l : BookLists) (scratch : List ℕ) where
         go : Still (bookOf k) o → keptOutcome k o ≡ asLent (o .answer) k
         go (inl e) = lent-back o e
         go (inr N) = absurd (bound (N .2))
+
+-- ---- the opening
+
+module _ (c : Columns) (count : ℕ) (la lb : BookLists) (scratch : List ℕ) (ka kb : Kept) (shareA shareB : ℕ) where
+  abbrev openingAsLent : Answer → KeptOpening
+  openingAsLent x =
+      record { answer = x; count = count; columns = c; a = la; b = lb; scratch = scratch; first = ka; second = kb }
+
+  -- THEOREM: an opening that is refused, with 7 or with 32, leaves every lent place and every field as it was lent.
+  pub opening-unchanged : keptOpening c count la lb scratch ka kb shareA shareB .answer .number ≢ 35
+      → keptOpening c count la lb scratch ka kb shareA shareB
+      ≡ openingAsLent (keptOpening c count la lb scratch ka kb shareA shareB .answer)
+  unfolding openOutcome
+  opening-unchanged = go (bookFits c la scratch && bookFits c lb scratch) (leb (shareA + shareB + 2) (length (c .vars)))
+    where
+      opened : OpenOutcome
+      opened = record {
+        answer = refusal 35;
+        count = 2;
+        columns = storedAs (length (c .vars)) emptied;
+        a = emptiedLists la;
+        b = emptiedLists lb;
+        scratch = zeros (length scratch);
+        bookA = openedBook shareA;
+        bookB = openedBook shareB;
+      }
+
+      refused : ℕ → OpenOutcome
+      refused number = unopened number c count la lb scratch (bookOf ka) (bookOf kb)
+
+      go : (p q : Bool) → (let o = openingBy ka kb shareA shareB (cond p (cond q opened (refused 32)) (refused 7)) in
+          o .answer .number ≢ 35 → o ≡ openingAsLent (o .answer))
+      go true true n = absurd (n refl)
+      go true false n = refl
+      go false q n = refl

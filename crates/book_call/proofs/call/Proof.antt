@@ -142,37 +142,12 @@ module _ (c : tie.After-unfit2) where
   abbrev start-from-return-3 : tie.Start
   start-from-return-3 = start-from-book-fits book-fits-from-return-3
 
-module _ (c : tie.After-call-64-arg9) where
-  abbrev then4-from-call-64-call : tie.Then4
-  then4-from-call-64-call = c .before .before .before .before .before .before .before .before .before
-
-  abbrev else3-from-call-64-call : tie.Else3
-  else3-from-call-64-call = then4-from-call-64-call .before
-
-  abbrev holding-fits-from-call-64-call : tie.After-holding-fits
-  holding-fits-from-call-64-call = holding-fits-from-else3 else3-from-call-64-call
-
-  abbrev else2-from-call-64-call : tie.Else2
-  else2-from-call-64-call = else2-from-holding-fits holding-fits-from-call-64-call
-
-  abbrev order-fits-from-call-64-call : tie.After-order-fits
-  order-fits-from-call-64-call = order-fits-from-else2 else2-from-call-64-call
-
-  abbrev else1-from-call-64-call : tie.Else1
-  else1-from-call-64-call = else1-from-order-fits order-fits-from-call-64-call
-
-  abbrev book-fits-from-call-64-call : tie.After-book-fits
-  book-fits-from-call-64-call = book-fits-from-else1 else1-from-call-64-call
-
-  abbrev start-from-call-64-call : tie.Start
-  start-from-call-64-call = start-from-book-fits book-fits-from-call-64-call
-
 module _ (c : tie.After-call-4096-arg9) where
-  abbrev then5-from-call-4096-call : tie.Then5
-  then5-from-call-4096-call = c .before .before .before .before .before .before .before .before .before
+  abbrev then4-from-call-4096-call : tie.Then4
+  then4-from-call-4096-call = c .before .before .before .before .before .before .before .before .before
 
   abbrev else3-from-call-4096-call : tie.Else3
-  else3-from-call-4096-call = then5-from-call-4096-call .before .before
+  else3-from-call-4096-call = then4-from-call-4096-call .before
 
   abbrev holding-fits-from-call-4096-call : tie.After-holding-fits
   holding-fits-from-call-4096-call = holding-fits-from-else3 else3-from-call-4096-call
@@ -194,7 +169,7 @@ module _ (c : tie.After-call-4096-arg9) where
 
 module _ (c : tie.After-call-65536-arg9) where
   abbrev else3-from-call-65536-call : tie.Else3
-  else3-from-call-65536-call = c .before .before .before .before .before .before .before .before .before .before .before
+  else3-from-call-65536-call = c .before .before .before .before .before .before .before .before .before .before
 
   abbrev holding-fits-from-call-65536-call : tie.After-holding-fits
   holding-fits-from-call-65536-call = holding-fits-from-else3 else3-from-call-65536-call
@@ -215,12 +190,12 @@ module _ (c : tie.After-call-65536-arg9) where
   start-from-call-65536-call = start-from-book-fits book-fits-from-call-65536-call
 
 module _ (c : tie.After-slice-known18) where
-  abbrev call-64-from-return-4 : tie.After-call-64
-  call-64-from-return-4 = c .before .before .before .before .before .before .before .before .before .before .before .before .before .before
+  abbrev call-4096-from-return-4 : tie.After-call-4096
+  call-4096-from-return-4 = c .before .before .before .before .before .before .before .before .before .before .before .before .before .before
       .before .before .before .before
 
   abbrev else3-from-return-4 : tie.Else3
-  else3-from-return-4 = else3-from-call-64-call (call-64-from-return-4 .before)
+  else3-from-return-4 = else3-from-call-4096-call (call-4096-from-return-4 .before)
 
   abbrev holding-fits-from-return-4 : tie.After-holding-fits
   holding-fits-from-return-4 = holding-fits-from-else3 else3-from-return-4
@@ -241,12 +216,12 @@ module _ (c : tie.After-slice-known18) where
   start-from-return-4 = start-from-book-fits book-fits-from-return-4
 
 module _ (c : tie.After-slice-known27) where
-  abbrev call-4096-from-return-5 : tie.After-call-4096
-  call-4096-from-return-5 = c .before .before .before .before .before .before .before .before .before .before .before .before .before
+  abbrev call-65536-from-return-5 : tie.After-call-65536
+  call-65536-from-return-5 = c .before .before .before .before .before .before .before .before .before .before .before .before .before
       .before .before .before .before .before
 
   abbrev else3-from-return-5 : tie.Else3
-  else3-from-return-5 = else3-from-call-4096-call (call-4096-from-return-5 .before)
+  else3-from-return-5 = else3-from-call-65536-call (call-65536-from-return-5 .before)
 
   abbrev holding-fits-from-return-5 : tie.After-holding-fits
   holding-fits-from-return-5 = holding-fits-from-else3 else3-from-return-5
@@ -265,32 +240,6 @@ module _ (c : tie.After-slice-known27) where
 
   abbrev start-from-return-5 : tie.Start
   start-from-return-5 = start-from-book-fits book-fits-from-return-5
-
-module _ (c : tie.After-slice-known36) where
-  abbrev call-65536-from-return-6 : tie.After-call-65536
-  call-65536-from-return-6 = c .before .before .before .before .before .before .before .before .before .before .before .before .before
-      .before .before .before .before .before
-
-  abbrev else3-from-return-6 : tie.Else3
-  else3-from-return-6 = else3-from-call-65536-call (call-65536-from-return-6 .before)
-
-  abbrev holding-fits-from-return-6 : tie.After-holding-fits
-  holding-fits-from-return-6 = holding-fits-from-else3 else3-from-return-6
-
-  abbrev else2-from-return-6 : tie.Else2
-  else2-from-return-6 = else2-from-holding-fits holding-fits-from-return-6
-
-  abbrev order-fits-from-return-6 : tie.After-order-fits
-  order-fits-from-return-6 = order-fits-from-else2 else2-from-return-6
-
-  abbrev else1-from-return-6 : tie.Else1
-  else1-from-return-6 = else1-from-order-fits order-fits-from-return-6
-
-  abbrev book-fits-from-return-6 : tie.After-book-fits
-  book-fits-from-return-6 = book-fits-from-else1 else1-from-return-6
-
-  abbrev start-from-return-6 : tie.Start
-  start-from-return-6 = start-from-book-fits book-fits-from-return-6
 
 returns : tie.Need-returns
 returns c =
@@ -410,52 +359,52 @@ returns-3 c =
     (sym (order-fits-from-return-3 c .order-fits .ensures) ∙ not-false _ (else2-from-return-3 c .if2 .left))
     (sym (holding-fits-from-return-3 c .holding-fits .ensures) ∙ not-true _ (then3-from-return-3 c .if3 .taken)) _ (c .unfit2 .ensures)
 
-call-64-requires : tie.Need-call-64-requires
-call-64-requires c κs =
-    let s = start-from-call-64-call c in
+call-4096-requires : tie.Need-call-4096-requires
+call-4096-requires c κs =
+    let s = start-from-call-4096-call c in
     let a = s .args in (
       ready (a .vars .now) (a .lows .now) (a .highs .now) (a .heads .now) (a .links .now) (a .count) (lists s) (a .scratch .now) (a .b)
-          (a .bytes .now) (sym (book-fits-from-call-64-call c .book-fits .ensures) ∙ not-false _ (else1-from-call-64-call c .if1 .left))
-          (sym (order-fits-from-call-64-call c .order-fits .ensures) ∙ not-false _ (else2-from-call-64-call c .if2 .left))
-          (sym (holding-fits-from-call-64-call c .holding-fits .ensures) ∙ not-false _ (else3-from-call-64-call c .if3 .left)),
-      then4-from-call-64-call c .if4 .taken,
+          (a .bytes .now) (sym (book-fits-from-call-4096-call c .book-fits .ensures) ∙ not-false _ (else1-from-call-4096-call c .if1 .left))
+          (sym (order-fits-from-call-4096-call c .order-fits .ensures) ∙ not-false _ (else2-from-call-4096-call c .if2 .left))
+          (sym (holding-fits-from-call-4096-call c .holding-fits .ensures) ∙ not-false _ (else3-from-call-4096-call c .if3 .left)),
+      then4-from-call-4096-call c .if4 .taken,
     )
 
 same-length-28 : tie.Need-same-length-28
 same-length-28 c =
-    call-64-from-return-4 c .call-64 .kept .0
+    call-4096-from-return-4 c .call-4096 .kept .0
 
 same-length-29 : tie.Need-same-length-29
 same-length-29 c =
-    call-64-from-return-4 c .call-64 .kept .1 .0
+    call-4096-from-return-4 c .call-4096 .kept .1 .0
 
 same-length-30 : tie.Need-same-length-30
 same-length-30 c =
-    call-64-from-return-4 c .call-64 .kept .1 .1 .0
+    call-4096-from-return-4 c .call-4096 .kept .1 .1 .0
 
 same-length-31 : tie.Need-same-length-31
 same-length-31 c =
-    call-64-from-return-4 c .call-64 .kept .1 .1 .1 .0
+    call-4096-from-return-4 c .call-4096 .kept .1 .1 .1 .0
 
 same-length-32 : tie.Need-same-length-32
 same-length-32 c =
-    call-64-from-return-4 c .call-64 .kept .1 .1 .1 .1 .0
+    call-4096-from-return-4 c .call-4096 .kept .1 .1 .1 .1 .0
 
 same-length-33 : tie.Need-same-length-33
 same-length-33 c =
-    call-64-from-return-4 c .call-64 .kept .1 .1 .1 .1 .1 .0
+    call-4096-from-return-4 c .call-4096 .kept .1 .1 .1 .1 .1 .0
 
 same-length-34 : tie.Need-same-length-34
 same-length-34 c =
-    call-64-from-return-4 c .call-64 .kept .1 .1 .1 .1 .1 .1 .0
+    call-4096-from-return-4 c .call-4096 .kept .1 .1 .1 .1 .1 .1 .0
 
 same-length-35 : tie.Need-same-length-35
 same-length-35 c =
-    call-64-from-return-4 c .call-64 .kept .1 .1 .1 .1 .1 .1 .1 .0
+    call-4096-from-return-4 c .call-4096 .kept .1 .1 .1 .1 .1 .1 .1 .0
 
 same-length-36 : tie.Need-same-length-36
 same-length-36 c =
-    call-64-from-return-4 c .call-64 .kept .1 .1 .1 .1 .1 .1 .1 .1 .0
+    call-4096-from-return-4 c .call-4096 .kept .1 .1 .1 .1 .1 .1 .1 .1 .0
 
 returns-4 : tie.Need-returns-4
 returns-4 c =
@@ -466,65 +415,7 @@ returns-4 c =
     (sym (book-fits-from-return-4 c .book-fits .ensures) ∙ not-false _ (else1-from-return-4 c .if1 .left))
     (sym (order-fits-from-return-4 c .order-fits .ensures) ∙ not-false _ (else2-from-return-4 c .if2 .left))
     (sym (holding-fits-from-return-4 c .holding-fits .ensures) ∙ not-false _ (else3-from-return-4 c .if3 .left)) _
-    (call-64-from-return-4 c .call-64 .ensures)
-
-call-4096-requires : tie.Need-call-4096-requires
-call-4096-requires c κs =
-    let s = start-from-call-4096-call c in
-    let a = s .args in (
-      ready (a .vars .now) (a .lows .now) (a .highs .now) (a .heads .now) (a .links .now) (a .count) (lists s) (a .scratch .now) (a .b)
-          (a .bytes .now) (sym (book-fits-from-call-4096-call c .book-fits .ensures) ∙ not-false _ (else1-from-call-4096-call c .if1 .left))
-          (sym (order-fits-from-call-4096-call c .order-fits .ensures) ∙ not-false _ (else2-from-call-4096-call c .if2 .left))
-          (sym (holding-fits-from-call-4096-call c .holding-fits .ensures) ∙ not-false _ (else3-from-call-4096-call c .if3 .left)),
-      then5-from-call-4096-call c .if5 .taken,
-    )
-
-same-length-37 : tie.Need-same-length-37
-same-length-37 c =
-    call-4096-from-return-5 c .call-4096 .kept .0
-
-same-length-38 : tie.Need-same-length-38
-same-length-38 c =
-    call-4096-from-return-5 c .call-4096 .kept .1 .0
-
-same-length-39 : tie.Need-same-length-39
-same-length-39 c =
-    call-4096-from-return-5 c .call-4096 .kept .1 .1 .0
-
-same-length-40 : tie.Need-same-length-40
-same-length-40 c =
-    call-4096-from-return-5 c .call-4096 .kept .1 .1 .1 .0
-
-same-length-41 : tie.Need-same-length-41
-same-length-41 c =
-    call-4096-from-return-5 c .call-4096 .kept .1 .1 .1 .1 .0
-
-same-length-42 : tie.Need-same-length-42
-same-length-42 c =
-    call-4096-from-return-5 c .call-4096 .kept .1 .1 .1 .1 .1 .0
-
-same-length-43 : tie.Need-same-length-43
-same-length-43 c =
-    call-4096-from-return-5 c .call-4096 .kept .1 .1 .1 .1 .1 .1 .0
-
-same-length-44 : tie.Need-same-length-44
-same-length-44 c =
-    call-4096-from-return-5 c .call-4096 .kept .1 .1 .1 .1 .1 .1 .1 .0
-
-same-length-45 : tie.Need-same-length-45
-same-length-45 c =
-    call-4096-from-return-5 c .call-4096 .kept .1 .1 .1 .1 .1 .1 .1 .1 .0
-
-returns-5 : tie.Need-returns-5
-returns-5 c =
-    let s = start-from-return-5 c in
-    let a = s .args in
-    outcome-done (a .vars .now) (a .lows .now) (a .highs .now) (a .heads .now) (a .links .now) (a .count) (lists s) (a .scratch .now) (a .b)
-    (a .bytes .now)
-    (sym (book-fits-from-return-5 c .book-fits .ensures) ∙ not-false _ (else1-from-return-5 c .if1 .left))
-    (sym (order-fits-from-return-5 c .order-fits .ensures) ∙ not-false _ (else2-from-return-5 c .if2 .left))
-    (sym (holding-fits-from-return-5 c .holding-fits .ensures) ∙ not-false _ (else3-from-return-5 c .if3 .left)) _
-    (call-4096-from-return-5 c .call-4096 .ensures)
+    (call-4096-from-return-4 c .call-4096 .ensures)
 
 call-65536-requires : tie.Need-call-65536-requires
 call-65536-requires c κs =
@@ -538,52 +429,52 @@ call-65536-requires c κs =
           ∙ not-false _ (else1-from-call-65536-call c .if1 .left)) .columns) .most,
     )
 
-same-length-46 : tie.Need-same-length-46
-same-length-46 c =
-    call-65536-from-return-6 c .call-65536 .kept .0
+same-length-37 : tie.Need-same-length-37
+same-length-37 c =
+    call-65536-from-return-5 c .call-65536 .kept .0
 
-same-length-47 : tie.Need-same-length-47
-same-length-47 c =
-    call-65536-from-return-6 c .call-65536 .kept .1 .0
+same-length-38 : tie.Need-same-length-38
+same-length-38 c =
+    call-65536-from-return-5 c .call-65536 .kept .1 .0
 
-same-length-48 : tie.Need-same-length-48
-same-length-48 c =
-    call-65536-from-return-6 c .call-65536 .kept .1 .1 .0
+same-length-39 : tie.Need-same-length-39
+same-length-39 c =
+    call-65536-from-return-5 c .call-65536 .kept .1 .1 .0
 
-same-length-49 : tie.Need-same-length-49
-same-length-49 c =
-    call-65536-from-return-6 c .call-65536 .kept .1 .1 .1 .0
+same-length-40 : tie.Need-same-length-40
+same-length-40 c =
+    call-65536-from-return-5 c .call-65536 .kept .1 .1 .1 .0
 
-same-length-50 : tie.Need-same-length-50
-same-length-50 c =
-    call-65536-from-return-6 c .call-65536 .kept .1 .1 .1 .1 .0
+same-length-41 : tie.Need-same-length-41
+same-length-41 c =
+    call-65536-from-return-5 c .call-65536 .kept .1 .1 .1 .1 .0
 
-same-length-51 : tie.Need-same-length-51
-same-length-51 c =
-    call-65536-from-return-6 c .call-65536 .kept .1 .1 .1 .1 .1 .0
+same-length-42 : tie.Need-same-length-42
+same-length-42 c =
+    call-65536-from-return-5 c .call-65536 .kept .1 .1 .1 .1 .1 .0
 
-same-length-52 : tie.Need-same-length-52
-same-length-52 c =
-    call-65536-from-return-6 c .call-65536 .kept .1 .1 .1 .1 .1 .1 .0
+same-length-43 : tie.Need-same-length-43
+same-length-43 c =
+    call-65536-from-return-5 c .call-65536 .kept .1 .1 .1 .1 .1 .1 .0
 
-same-length-53 : tie.Need-same-length-53
-same-length-53 c =
-    call-65536-from-return-6 c .call-65536 .kept .1 .1 .1 .1 .1 .1 .1 .0
+same-length-44 : tie.Need-same-length-44
+same-length-44 c =
+    call-65536-from-return-5 c .call-65536 .kept .1 .1 .1 .1 .1 .1 .1 .0
 
-same-length-54 : tie.Need-same-length-54
-same-length-54 c =
-    call-65536-from-return-6 c .call-65536 .kept .1 .1 .1 .1 .1 .1 .1 .1 .0
+same-length-45 : tie.Need-same-length-45
+same-length-45 c =
+    call-65536-from-return-5 c .call-65536 .kept .1 .1 .1 .1 .1 .1 .1 .1 .0
 
-returns-6 : tie.Need-returns-6
-returns-6 c =
-    let s = start-from-return-6 c in
+returns-5 : tie.Need-returns-5
+returns-5 c =
+    let s = start-from-return-5 c in
     let a = s .args in
     outcome-done (a .vars .now) (a .lows .now) (a .highs .now) (a .heads .now) (a .links .now) (a .count) (lists s) (a .scratch .now) (a .b)
     (a .bytes .now)
-    (sym (book-fits-from-return-6 c .book-fits .ensures) ∙ not-false _ (else1-from-return-6 c .if1 .left))
-    (sym (order-fits-from-return-6 c .order-fits .ensures) ∙ not-false _ (else2-from-return-6 c .if2 .left))
-    (sym (holding-fits-from-return-6 c .holding-fits .ensures) ∙ not-false _ (else3-from-return-6 c .if3 .left)) _
-    (call-65536-from-return-6 c .call-65536 .ensures)
+    (sym (book-fits-from-return-5 c .book-fits .ensures) ∙ not-false _ (else1-from-return-5 c .if1 .left))
+    (sym (order-fits-from-return-5 c .order-fits .ensures) ∙ not-false _ (else2-from-return-5 c .if2 .left))
+    (sym (holding-fits-from-return-5 c .holding-fits .ensures) ∙ not-false _ (else3-from-return-5 c .if3 .left)) _
+    (call-65536-from-return-5 c .call-65536 .ensures)
 
 pub call-spec : {M : Type 1} → statement M
 call-spec =
@@ -591,8 +482,7 @@ call-spec =
     same-length-8 same-length-9 returns order-fits-requires unfit-requires same-length-10 same-length-11 same-length-12 same-length-13
     same-length-14 same-length-15 same-length-16 same-length-17 same-length-18 returns-2 holding-fits-requires unfit-requires-2
     same-length-19 same-length-20 same-length-21 same-length-22 same-length-23 same-length-24 same-length-25 same-length-26
-    same-length-27 returns-3 call-64-requires same-length-28 same-length-29 same-length-30 same-length-31 same-length-32 same-length-33
-    same-length-34 same-length-35 same-length-36 returns-4 call-4096-requires same-length-37 same-length-38 same-length-39
-    same-length-40 same-length-41 same-length-42 same-length-43 same-length-44 same-length-45 returns-5 call-65536-requires
-    same-length-46 same-length-47 same-length-48 same-length-49 same-length-50 same-length-51 same-length-52 same-length-53
-    same-length-54 returns-6)
+    same-length-27 returns-3 call-4096-requires same-length-28 same-length-29 same-length-30 same-length-31 same-length-32 same-length-33
+    same-length-34 same-length-35 same-length-36 returns-4 call-65536-requires
+    same-length-37 same-length-38 same-length-39 same-length-40 same-length-41 same-length-42 same-length-43 same-length-44
+    same-length-45 returns-5)
