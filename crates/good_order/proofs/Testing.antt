@@ -5,7 +5,7 @@ use mathlib.Core.Bool.{Bool, true, false}
 use mathlib.Core.List.{List}
 use Prim.Native.Nat.{ℕ, _+_, _-_, _≤_, _<_}
 use native.Mathlib.Omega.{arith}
-use native.Mathlib.Decide.{ℕ-discrete}
+use native.Mathlib.Decide.{ℕ-discrete, decLt}
 use lib.ListN.{length, getD, take, drop, length-drop}
 use lib.Seq.{take-all}
 use lib.Dec.{eqb}
@@ -20,7 +20,7 @@ use Rattle.table.proofs.Chain.{rows-at}
 use Rattle.table.proofs.Sizes.{Sized, sized}
 use Rattle.table.specs.Index.{bucket, goodOrder}
 use Rattle.good_order.specs.Tested.{Decides, LentSizes, placesOf, chainAt, OfChain, NodeFits, here, next, Comes, InChain, Empty}
-use Rattle.good_order.specs.Tested.{NodesFit, HeadsFit, AllInChain, Walkable}
+use Rattle.good_order.specs.Tested.{NodesFit, BlockFits, HeadsFit, AllInChain, Walkable}
 use Rattle.good_order.proofs.Paths.{reach-least}
 use Rattle.good_order.proofs.Right.{right-claim, refused, all-pass, passed}
 
@@ -34,8 +34,12 @@ says-yes p = record { yes = λ _. p; no = λ e. t≢f e }
 pub one-more : (Q : ℕ → Type 0) (from k : ℕ) → ((j : ℕ) → from ≤ j → j < k → Q j) → Q k → (j : ℕ) → from ≤ j → j < k + 1 → Q j
 one-more Q from k before q j a b = elim (ℕ-discrete j k) [ yes e ↦ subst Q (sym e) q | no e ↦ before j a (omega (arith, e)) ]
 
-pub head-more : (Q : ℕ → Type 0) (k : ℕ) → ((j : ℕ) → j < k → Q j) → Q k → (j : ℕ) → j < k + 1 → Q j
-head-more Q k before q j b = elim (ℕ-discrete j k) [ yes e ↦ subst Q (sym e) q | no e ↦ before j (omega (arith, e)) ]
+-- one block more
+pub block-more : (T : Table) (m n : ℕ) → HeadsFit T m → BlockFits T m n → HeadsFit T n
+block-more T m n before block b lt = elim (decLt b m) [ yes p ↦ before b p | no p ↦ block b (omega (arith, p)) lt ]
+
+pub zeros-fit : (T : Table) (from to : ℕ) → Empty (T .heads) from to → BlockFits T from to
+zeros-fit T from to zeros b a lt some = absurd (some (zeros b a lt))
 
 -- the walk to place k has come to place j
 pub record Walking (T : Table) (k j : ℕ) : Type 0 where

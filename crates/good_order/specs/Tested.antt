@@ -58,6 +58,9 @@ Empty xs from to = (k : ℕ) → from ≤ k → k < to → getD xs k 0 ≡ 0
 abbrev pub NodesFit : Table → ℕ → Type 0
 NodesFit T m = (k : ℕ) → 2 ≤ k → k < m → NodeFits T k
 
+abbrev pub BlockFits : Table → ℕ → ℕ → Type 0
+BlockFits T from to = (b : ℕ) → from ≤ b → b < to → OfChain T (T .count) b (getD (T .heads) b 0)
+
 abbrev pub HeadsFit : Table → ℕ → Type 0
 HeadsFit T m = (b : ℕ) → b < m → OfChain T (T .count) b (getD (T .heads) b 0)
 

@@ -7,28 +7,29 @@ ghost use Rattle.table.specs.Nodes.{at, allBlank, fits};
 ghost use Rattle.table.specs.Index.{goodOrder};
 ghost use Rattle.table.specs.Columns.{rows, sizeFits};
 ghost use Rattle.table.specs.Indexed.{tableOf};
-ghost use Rattle.good_order.specs.Tested.{Decides, LentSizes, OfChain, NodeFits, InChain, Empty};
-ghost use Rattle.good_order.specs.Tested.{NodesFit, HeadsFit, AllInChain, Walkable};
+ghost use Rattle.good_order.specs.Tested.{Decides, LentSizes, OfChain, NodeFits, InChain};
+ghost use Rattle.good_order.specs.Tested.{NodesFit, BlockFits, HeadsFit, AllInChain, Walkable};
+
+pub mod zeros;
+
+// How many heads are tested at once.
+const BLOCK: usize = 16;
 
 // Whether the places from `from` up to `to` hold zeros.
 fn blank_between(vars: &[u8], lows: &[u16], highs: &[u16], from: usize, to: usize) -> bool
-    requires { ⌜ (length (now lows) ≡ length (now vars)) × (length (now highs) ≡ length (now vars)) × (to ≤ length (now vars)) ⌝ }
+    requires { ⌜ (length (now lows) ≡ length (now vars))
+        × (length (now highs) ≡ length (now vars))
+        × (to ≤ length (now vars))
+        × (from ≤ to) ⌝ }
     ensures { λ r. ⌜ r ≡ allBlank (take (to - from) (drop from (rows (now (vars .entry)) (now (lows .entry)) (now (highs .entry))))) ⌝ }
 {
-    let mut i = from;
-    while i < to {
-        if vars[i] != 0 {
-            return false;
-        }
-        if lows[i] != 0 {
-            return false;
-        }
-        if highs[i] != 0 {
-            return false;
-        }
-        i += 1;
+    if !zeros::bytes_empty(vars, from, to) {
+        return false;
     }
-    true
+    if !zeros::places_empty(lows, from, to) {
+        return false;
+    }
+    zeros::places_empty(highs, from, to)
 }
 
 // Whether the node at place k is as good order asks, but for being new.
@@ -60,21 +61,6 @@ fn fits_at(vars: &[u8], lows: &[u16], highs: &[u16], k: usize) -> bool
         return false;
     }
     table::test::stands_above(vars, lows, highs, v, h)
-}
-
-// Whether the places from `from` up to `to` have no link.
-fn links_empty(links: &[u16], from: usize, to: usize) -> bool
-    requires { ⌜ (from ≤ to) × (to ≤ length (now links)) ⌝ }
-    ensures { λ r. ⌜ Decides r (Empty (now (links .entry)) from to) ⌝ }
-{
-    let mut i = from;
-    while i < to {
-        if links[i] != 0 {
-            return false;
-        }
-        i += 1;
-    }
-    true
 }
 
 // Whether j is 0, or a node of chain b below `top`.
@@ -154,7 +140,49 @@ fn nodes_fit(
     true
 }
 
-// Whether each head is 0 or a node of its chain.
+// Whether the heads from `from` up to `to` are each 0 or a node of their chain.
+fn block_fits(
+    vars: &[u8],
+    lows: &[u16],
+    highs: &[u16],
+    heads: &[u16],
+    links: &[u16],
+    count: usize,
+    from: usize,
+    to: usize,
+) -> bool
+    requires { ⌜ LentSizes (tableOf (now vars) (now lows) (now highs) (now heads) (now links) count)
+        × (from ≤ to)
+        × (to ≤ length (now heads)) ⌝ }
+    ensures { λ r. ⌜ (
+        let lent = tableOf (now (vars .entry)) (now (lows .entry)) (now (highs .entry)) (now (heads .entry)) (now (links .entry)) count in
+        Decides r (BlockFits lent from to)) ⌝ }
+{
+    if zeros::zero_block(heads, from, to) {
+        return true;
+    }
+    let mut b: usize = from;
+    while b < to {
+        if !of_chain(vars, lows, highs, heads, links, count, count, b, heads[b]) {
+            return false;
+        }
+        b += 1;
+    }
+    true
+}
+
+// Where the block that begins at b ends, of n heads.
+fn block_end(b: usize, n: usize) -> usize
+    requires { ⌜ b < n ⌝ }
+    ensures { λ r. ⌜ (b < r) × (r ≤ n) ⌝ }
+{
+    if n - b < BLOCK {
+        return n;
+    }
+    b + BLOCK
+}
+
+// Whether each head is 0 or a node of its chain: by blocks, and those of zeros are passed.
 fn heads_fit(
     vars: &[u8],
     lows: &[u16],
@@ -170,10 +198,11 @@ fn heads_fit(
 {
     let mut b: usize = 0;
     while b < heads.len() {
-        if !of_chain(vars, lows, highs, heads, links, count, count, b, heads[b]) {
+        let end = block_end(b, heads.len());
+        if !block_fits(vars, lows, highs, heads, links, count, b, end) {
             return false;
         }
-        b += 1;
+        b = end;
     }
     true
 }
@@ -259,10 +288,10 @@ pub fn order_fits(
     if !blank_between(vars, lows, highs, count, vars.len()) {
         return false;
     }
-    if !links_empty(links, 0, 2) {
+    if !zeros::places_empty(links, 0, 2) {
         return false;
     }
-    if !links_empty(links, count, links.len()) {
+    if !zeros::places_empty(links, count, links.len()) {
         return false;
     }
     if !nodes_fit(vars, lows, highs, heads, links, count) {

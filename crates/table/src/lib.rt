@@ -56,7 +56,10 @@ fn wrapping_product(a: u32, b: u32) -> u32
 // The most heads of an index: two for each place.
 const MOST_HEADS: usize = 131072;
 
-// The chain of a node among `heads`. Their greatest number is a case of its own: a remainder by a constant is no division.
+// Those of a table of 4,096 places.
+const SOME_HEADS: usize = 8192;
+
+// The chain of a node among `heads`. Two numbers of them are cases of their own: a remainder by a constant is no division.
 pub fn bucket_of(heads: usize, v: u8, l: u16, h: u16) -> usize
     requires { ⌜ 0 < heads ⌝ }
     ensures { λ r. ⌜ r ≡ bucket heads v l h ⌝ }
@@ -67,6 +70,9 @@ pub fn bucket_of(heads: usize, v: u8, l: u16, h: u16) -> usize
     let key = std::num::wrapping_add_u32(std::num::wrapping_add_u32(v as u32, low), high);
     if heads == MOST_HEADS {
         return (key as usize) % MOST_HEADS;
+    }
+    if heads == SOME_HEADS {
+        return (key as usize) % SOME_HEADS;
     }
     (key as usize) % heads
 }

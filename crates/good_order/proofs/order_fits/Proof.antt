@@ -2,6 +2,7 @@
 use mathlib.Core.Path.{sym, _∙_}
 use native.Mathlib.Omega.{arith}
 use borrow.Author.Tests.{not-true, not-false}
+use borrow.Author.Needs.{needs}
 use Rattle.table.proofs.Sizes.{sized}
 use Rattle.table.proofs.Places.{too-few, too-many, bad-start, bad-rest}
 use Rattle.good_order.proofs.Right.{refused, nodes-pass, heads-pass}
@@ -62,20 +63,20 @@ module _ (c : tie.Then4) where
   abbrev start-from-then4 : tie.Start
   start-from-then4 = start-from-else1 else1-from-then4
 
-module _ (c : tie.After-links-empty) where
-  abbrev else2-from-links-empty : tie.Else2
-  else2-from-links-empty = else2-from-blank-between2 (c .before .before)
+module _ (c : tie.After-places-empty) where
+  abbrev else2-from-places-empty : tie.Else2
+  else2-from-places-empty = else2-from-blank-between2 (c .before .before)
 
 module _ (c : tie.Else5) where
   abbrev else2-from-else5 : tie.Else2
-  else2-from-else5 = else2-from-links-empty (c .before)
+  else2-from-else5 = else2-from-places-empty (c .before)
 
   abbrev start-from-else5 : tie.Start
   start-from-else5 = start-from-else2 else2-from-else5
 
 module _ (c : tie.Then5) where
   abbrev else2-from-then5 : tie.Else2
-  else2-from-then5 = else2-from-links-empty (c .before)
+  else2-from-then5 = else2-from-places-empty (c .before)
 
   abbrev else1-from-then5 : tie.Else1
   else1-from-then5 = else1-from-else2 else2-from-then5
@@ -160,17 +161,17 @@ module _ (c : tie.After-all-in-chain) where
   abbrev else6-from-return-9 : tie.Else6
   else6-from-return-9 = nodes-fit-from-return-9 .before
 
-  abbrev links-empty2-from-return-9 : tie.After-links-empty2
-  links-empty2-from-return-9 = else6-from-return-9 .before
+  abbrev places-empty2-from-return-9 : tie.After-places-empty2
+  places-empty2-from-return-9 = else6-from-return-9 .before
 
   abbrev else5-from-return-9 : tie.Else5
-  else5-from-return-9 = links-empty2-from-return-9 .before
+  else5-from-return-9 = places-empty2-from-return-9 .before
 
-  abbrev links-empty-from-return-9 : tie.After-links-empty
-  links-empty-from-return-9 = else5-from-return-9 .before
+  abbrev places-empty-from-return-9 : tie.After-places-empty
+  places-empty-from-return-9 = else5-from-return-9 .before
 
   abbrev else4-from-return-9 : tie.Else4
-  else4-from-return-9 = links-empty-from-return-9 .before
+  else4-from-return-9 = places-empty-from-return-9 .before
 
   abbrev blank-between2-from-return-9 : tie.After-blank-between2
   blank-between2-from-return-9 = else4-from-return-9 .before
@@ -203,6 +204,7 @@ blank-between-requires c κs = (
   (sized _ _ _ _ _ (start-from-else2 c .pre)) .lows,
   (sized _ _ _ _ _ (start-from-else2 c .pre)) .highs,
   (sized _ _ _ _ _ (start-from-else2 c .pre)) .least,
+  omega arith,
 )
 
 returns-3 : tie.Need-returns-3
@@ -215,6 +217,7 @@ blank-between-requires-2 c κs = (
   (sized _ _ _ _ _ (start-from-else3 c .pre)) .lows,
   (sized _ _ _ _ _ (start-from-else3 c .pre)) .highs,
   omega arith,
+  search needs,
 )
 
 returns-4 : tie.Need-returns-4
@@ -222,8 +225,8 @@ returns-4 c = sym (no-order _ _ _ _ (bad-rest _ _ _ (sized _ _ _ _ _ (start-from
     (sized _ _ _ _ _ (start-from-then4 c .pre) .highs) _ (else1-from-then4 c .if1 .left) (else2-from-then4 c .if2 .left)
     (sym (c .before .blank-between2 .ensures) ∙ not-true _ (c .if4 .taken))))
 
-links-empty-requires : tie.Need-links-empty-requires
-links-empty-requires c κs = (
+places-empty-requires : tie.Need-places-empty-requires
+places-empty-requires c κs = (
   omega arith,
   omega
       (arith, (sized _ _ _ _ _ (start-from-else4 c .pre)) .least, (sized _ _ _ _ _ (start-from-else4 c .pre)) .links),
@@ -231,17 +234,17 @@ links-empty-requires c κs = (
 
 returns-5 : tie.Need-returns-5
 returns-5 c = sym (refused _ (lent _ _ _ _ _ _ (start-from-then5 c .pre) (else1-from-then5 c .if1 .left) (else2-from-then5 c .if2 .left))
-    (λ R. c .before .links-empty .ensures .no (not-true _ (c .if5 .taken)) (R .first)))
+    (λ R. c .before .places-empty .ensures .no (not-true _ (c .if5 .taken)) (R .first)))
 
-links-empty-requires-2 : tie.Need-links-empty-requires-2
-links-empty-requires-2 c κs = (
+places-empty-requires-2 : tie.Need-places-empty-requires-2
+places-empty-requires-2 c κs = (
   omega (arith, else2-from-else5 c .if2 .left, (sized _ _ _ _ _ (start-from-else5 c .pre)) .links),
   omega arith,
 )
 
 returns-6 : tie.Need-returns-6
 returns-6 c = sym (refused _ (lent _ _ _ _ _ _ (start-from-then6 c .pre) (else1-from-then6 c .if1 .left) (else2-from-then6 c .if2 .left))
-    (λ R. c .before .links-empty2 .ensures .no (not-true _ (c .if6 .taken))
+    (λ R. c .before .places-empty2 .ensures .no (not-true _ (c .if6 .taken))
     (λ k a b. R .past k a (omega (arith, (sized _ _ _ _ _ (start-from-then6 c .pre)) .links)))))
 
 nodes-fit-requires : tie.Need-nodes-fit-requires
@@ -275,8 +278,8 @@ returns-9 c = decided _ (lent _ _ _ _ _ _ (start-from-return-9 c .pre) (else1-fr
     (else2-from-return-9 c .if2 .left)) (sym (blank-between-from-return-9 c .blank-between .ensures)
     ∙ not-false _ (else3-from-return-9 c .if3 .left))
     (sym (blank-between2-from-return-9 c .blank-between2 .ensures) ∙ not-false _ (else4-from-return-9 c .if4 .left))
-    (links-empty-from-return-9 c .links-empty .ensures .yes (not-false _ (else5-from-return-9 c .if5 .left)))
-    (links-empty2-from-return-9 c .links-empty2 .ensures .yes (not-false _ (else6-from-return-9 c .if6 .left)))
+    (places-empty-from-return-9 c .places-empty .ensures .yes (not-false _ (else5-from-return-9 c .if5 .left)))
+    (places-empty2-from-return-9 c .places-empty2 .ensures .yes (not-false _ (else6-from-return-9 c .if6 .left)))
     (nodes-fit-from-return-9 c .nodes-fit .ensures .yes (not-false _ (else7-from-return-9 c .if7 .left)))
     (c .before .before .heads-fit .ensures .yes (not-false _ (c .before .if8 .left))) _ (c .all-in-chain .ensures)
 
@@ -290,9 +293,9 @@ order-fits-spec =
     returns-3
     blank-between-requires-2
     returns-4
-    links-empty-requires
+    places-empty-requires
     returns-5
-    links-empty-requires-2
+    places-empty-requires-2
     returns-6
     nodes-fit-requires
     returns-7

@@ -1,6 +1,6 @@
 -- `bucket_of` is the chain of a node: sums and products modulo 2^32 are the sum modulo 2^32. Assumes nothing.
 use Prim.Native.Nat.{ℕ, _+_, _*_, _%_, _^_, _<_}
-use mathlib.Core.Path.{_≡_, sym, ap, _∙_, subst}
+use mathlib.Core.Path.{_≡_, refl, sym, ap, _∙_, subst}
 use native.Mathlib.Omega.{arith}
 use native.Mathlib.Nat.{mod-lt, add-mod-mod, mod-add-mod}
 use Rattle.table.specs.Index.{bucket}
@@ -34,6 +34,9 @@ cast-result c = search needs
 cast-result-2 : tie.Need-cast-result-2
 cast-result-2 c = search needs
 
+cast-result-3 : tie.Need-cast-result-3
+cast-result-3 c = search needs
+
 rem-result : tie.Need-rem-result
 rem-result c = search needs
 
@@ -54,15 +57,25 @@ module _ (c : tie.After-wrapping-add-u322) where
       ap (λ (k : ℕ). k % n) (key-is _ _ _ _ _ _ _ (wrapping-product-from-wrapping-add-u322 c .wrapping-product .ensures)
       (c .before .before .wrapping-product2 .ensures) (c .before .wrapping-add-u32 .ensures) (c .wrapping-add-u322 .ensures))
 
+  -- where the heads are n, the remainder by n is the chain
+  chain-of : (n : ℕ) → start-from-wrapping-add-u322 c .args .heads ≡ n → 0 < n
+      → (c .wrapping-add-u322 .result % n ≡ bucket (start-from-wrapping-add-u322 c .args .heads) (start-from-wrapping-add-u322 c .args .v)
+      (start-from-wrapping-add-u322 c .args .l) (start-from-wrapping-add-u322 c .args .h))
+      × (c .wrapping-add-u322 .result % n < start-from-wrapping-add-u322 c .args .heads)
+  chain-of n e some =
+      let a = start-from-wrapping-add-u322 c .args in (
+        chain-is n ∙ ap (λ (m : ℕ). bucket m (a .v) (a .l) (a .h)) (sym e),
+        subst (λ (m : ℕ). c .wrapping-add-u322 .result % n < m) (sym e) (mod-lt _ some),
+      )
+
 returns : tie.Need-returns
-returns c =
-    let a = start-from-wrapping-add-u322 (c .before) .args in (
-      chain-is (c .before) 131072 ∙ ap (λ (n : ℕ). bucket n (a .v) (a .l) (a .h)) (sym (c .if1 .taken)),
-      subst (λ (n : ℕ). c .before .wrapping-add-u322 .result % 131072 < n) (sym (c .if1 .taken)) (mod-lt _ (omega arith)),
-    )
+returns c = chain-of (c .before) 131072 (c .if1 .taken) (omega arith)
 
 returns-2 : tie.Need-returns-2
-returns-2 c = (chain-is (c .before) _, mod-lt _ (start-from-wrapping-add-u322 (c .before) .pre))
+returns-2 c = chain-of (c .before .before) 8192 (c .if2 .taken) (omega arith)
+
+returns-3 : tie.Need-returns-3
+returns-3 c = chain-of (c .before .before) _ refl (start-from-wrapping-add-u322 (c .before .before) .pre)
 
 pub bucket-of-spec : {M : Type 1} → statement M
 bucket-of-spec =
@@ -75,5 +88,7 @@ bucket-of-spec =
     cast-result
     returns
     cast-result-2
+    returns-2
+    cast-result-3
     rem-result
-    returns-2)
+    returns-3)
