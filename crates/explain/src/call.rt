@@ -22,7 +22,8 @@ ghost use Rattle.causes.specs.Answers.{told, why};
 ghost use Rattle.line_again.specs.Before.{hasCause};
 ghost use Rattle.line_again.specs.Made.{LeftBy};
 ghost use Rattle.command_causes.specs.Causes.{toldBy};
-ghost use Rattle.explain.specs.Why.{whyOutcome, explainedIn, noCause, whyNothing, whyOf};
+ghost use Rattle.explain.specs.Inner.{explainedIn, noCause, whyNothing, whyOf};
+ghost use Rattle.explain.specs.Why.{whyOutcome};
 
 // The memo's cells: those that a table of 65,536 places needs.
 const CELLS: usize = 65600;
