@@ -12,12 +12,15 @@ import re
 import sys
 from pathlib import Path
 
-# The open crates, those of them that are there: their lib.rt, and all of `report`.
-OPEN = ["checker", "nodes", "node_check", "export", "report", "report_in", "small_export", "books_export"]
+# The open crates, those of them that are there: their lib.rt, all of `report`, and of `explain` the exported call.
+OPEN = ["checker", "nodes", "node_check", "export", "report", "report_in", "small_export", "books_export", "explain"]
+SOURCES = {"report": "*.rt", "explain": "linked.rt"}
 PROGRAM = {("report", "Files"), ("report", "Line")}
 SMALL = {("small_verdict", "Small"), ("small", "Checked")}
 BOOKS = {("shares", "Shares"), ("shares", "Alone"), ("shares", "Books"), ("books_export", "Kept"),
          ("verdict", "Run"), ("verdict", "Taken"), ("verdict", "ClauseTaken")}
+WHY = {("causes", "Parts"), ("causes", "Causes"), ("causes", "Explanation"), ("causes", "Answers"), ("explain", "Why"),
+       ("verdict", "Cases"), ("dimacs", "Texts")}
 KIT = ("Prim.", "mathlib.", "native.", "lib.", "io.")
 USE = re.compile(r"^(?:ghost )?use ([^\s{;]+?)\.?(?:\{([^}]*)\})?(?: as \S+)?;?$", re.M)
 RUST = re.compile(r"^(?:pub )?use ([a-z_]+(?:::[A-Za-z_]+)+)(?:::\{([^}]*)\})?;$", re.M)
@@ -83,7 +86,7 @@ class Believed:
 
     def follow(self):
         for crate in OPEN:
-            for path in sorted(Path("crates", crate, "src").glob("*.rt" if crate == "report" else "lib.rt")):
+            for path in sorted(Path("crates", crate, "src").glob(SOURCES.get(crate, "lib.rt"))):
                 self.antt(path)
                 self.rust(path)
         while self.todo:
@@ -107,8 +110,8 @@ def missing(b, counts):
 def main():
     b = Believed()
     b.follow()
-    parts = (b.specs - PROGRAM - SMALL - BOOKS, b.specs & PROGRAM, b.specs & SMALL, b.specs & BOOKS)
-    library, program, small, books = (sum(map(lines, fs)) for fs in parts)
+    parts = (b.specs - PROGRAM - SMALL - BOOKS - WHY, b.specs & PROGRAM, b.specs & SMALL, b.specs & BOOKS, b.specs & WHY)
+    library, program, small, books, why = (sum(map(lines, fs)) for fs in parts)
     types = sum(b.types.values())
     for f in sorted(b.specs):
         print(f"{lines(f):4} {spec(f)}")
@@ -117,12 +120,12 @@ def main():
     for module, words in sorted(b.kit.items()):
         print(f"     {module}: {', '.join(sorted(words))}")
     print(f"{library:4} lines of definitions for the library, {program} more for the program, {small} more for the check by truth table,")
-    print(f"{books:4} more for two books on one table")
+    print(f"{books:4} more for two books on one table, {why} more for why a check is refused")
     print(f"{types:4} lines of declared types")
     for name in b.unknown:
         print(f"unknown: {name}", file=sys.stderr)
     if "--check" in sys.argv[1:]:
-        wrong = missing(b, (library, program, small, books, types))
+        wrong = missing(b, (library, program, small, books, why, types))
         if wrong:
             sys.exit("docs/THEOREMS.md, What has to be believed: lacks " + ", ".join(wrong))
         if b.unknown:

@@ -15,7 +15,8 @@ ghost use Rattle.causes.specs.Explanation.{explanation};
 ghost use Rattle.causes.specs.Answers.{told, why};
 ghost use Rattle.line_again.specs.Before.{hasCause};
 ghost use Rattle.line_again.specs.Made.{LeftBy};
-ghost use Rattle.explain.specs.Why.{whyOutcome, explainedIn, noCause, whyNothing, whyOf};
+ghost use Rattle.explain.specs.Inner.{explainedIn, noCause, whyNothing, whyOf};
+ghost use Rattle.explain.specs.Why.{whyOutcome};
 
 // Whether the cause of a number is told beside it.
 fn has_cause(number: u8) -> bool
