@@ -19,8 +19,7 @@ PROGRAM = {("report", "Files"), ("report", "Line")}
 SMALL = {("small_verdict", "Small"), ("small", "Checked")}
 BOOKS = {("shares", "Shares"), ("shares", "Alone"), ("shares", "Books"), ("book_kept", "Kept"), ("book_kept", "Calls"),
          ("verdict", "Run"), ("verdict", "Taken"), ("verdict", "ClauseTaken")}
-WHY = {("causes", "Parts"), ("causes", "Causes"), ("causes", "Explanation"), ("causes", "Answers"), ("explain", "Why"),
-       ("verdict", "Cases"), ("clausal", "Tries"), ("clausal", "Literals")}
+WHY = {("causes", "Parts"), ("causes", "Causes"), ("causes", "Explanation"), ("causes", "Answers"), ("explain", "Why")}
 KIT = ("Prim.", "mathlib.", "native.", "lib.", "io.")
 USE = re.compile(r"^(?:ghost )?use ([^\s{;]+?)\.?(?:\{([^}]*)\})?(?: as \S+)?;?$", re.M)
 RUST = re.compile(r"^(?:pub )?use ([a-z_]+(?:::[A-Za-z_]+)+)(?:::\{([^}]*)\})?;$", re.M)

@@ -25,7 +25,8 @@ use Rattle.causes.specs.Causes.{plain}
 use Rattle.causes.specs.Explanation.{Explanation, explained, explanation}
 use Rattle.causes.specs.Answers.{told, WhyOutcome, answered, unanswered, why}
 use Rattle.line_again.specs.Made.{LeftBy}
-use Rattle.explain.specs.Why.{whyOutcome, explainedIn, whyNothing}
+use Rattle.explain.specs.Inner.{explainedIn, whyNothing}
+use Rattle.explain.specs.Why.{whyOutcome}
 use Rattle.explain.proofs.Explaining.{explanation-thirty}
 
 closed-seven : (mode : Mode) (s : ℕ) (formula proof : List ℕ) (v : Verdict) → Closed mode s formula proof v → v .number ≢ 7

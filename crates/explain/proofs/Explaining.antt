@@ -22,7 +22,8 @@ use Rattle.pieces.specs.Shown.{pieceEnd}
 use Rattle.line_again.specs.Before.{hasCause}
 use Rattle.command_causes.specs.declared.Cause as code
 use Rattle.command_causes.specs.Causes.{toldBy}
-use Rattle.explain.specs.Why.{whyOutcome, explainedIn, noCause, whyOf}
+use Rattle.explain.specs.Inner.{explainedIn, noCause, whyOf}
+use Rattle.explain.specs.Why.{whyOutcome}
 
 -- nothing told beside the number
 told-none : (words : List ℕ) → words ≡ zeros (length words) → toldBy noCause words ≡ told (length words) plain

@@ -9,7 +9,8 @@ use Rattle.table.specs.Columns.{columnsMade}
 use Rattle.state.specs.States.{Lent}
 use Rattle.line_again.specs.Before.{hasCause}
 use Rattle.command_causes.specs.declared.Cause.{Cause}
-use Rattle.explain.specs.Why.{whyOutcome, whyOf}
+use Rattle.explain.specs.Inner.{whyOf}
+use Rattle.explain.specs.Why.{whyOutcome}
 use Rattle.explain.proofs.Explaining.{piece-asks, explained-so, explained-plain}
 use Rattle.explain.proofs.call.explained.Statement.{statement}
 use Rattle.explain.proofs.call.explained.Tie as tie
