@@ -232,7 +232,8 @@ both answer first second = record { answer = answer; first = first; second = sec
 abbrev pub Openings : List OpeningRow → Type 0
 Openings []ᴸ = Unit {0}
 Openings (x ∷ᴸ xs) =
-    (both (openingOf x .answer) (openingOf x .first) (openingOf x .second) ≡ both (refusal (x .number)) (x .first) (x .second)) × Openings xs
+    (both (openingOf x .answer) (openingOf x .first) (openingOf x .second) ≡ both (refusal (x .number)) (x .first) (x .second))
+    × Openings xs
 
 -- 7 before 32, by either book's lists; 32 before 35: all as it was lent. 35: zeros.
 abbrev pub openingRows : List OpeningRow
