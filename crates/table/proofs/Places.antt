@@ -1,38 +1,19 @@
--- What each test of a place says of the rows: zeros, a node's parts, the count. The idea: a failed test is a false factor of the
+-- What each test of a place says of the rows: a node's parts, the count. The idea: a failed test is a false factor of the
 -- definition.
 -- Assumes nothing.
-use Prim.Native.Nat.{ℕ, suc, _+_, _-_, _≤_, _<_}
+use Prim.Native.Nat.{ℕ, _-_, _≤_, _<_}
 use mathlib.Core.Path.{_≡_, ap, sym, _∙_}
 use mathlib.Core.Bool.{Bool, true, false, _&&_, and-true, and-false}
 use mathlib.Core.List.{List}
 use native.Mathlib.Omega.{arith}
-use native.Mathlib.Numerals.{add-one}
 use lib.ListN.{length, getD, take, drop, length-drop}
-use lib.Seq.{take-take, take-all, drop-cons}
-use lib.Dec.{eqb, ltb}
+use lib.Seq.{take-take, take-all}
+use lib.Dec.{ltb}
 use borrow.Author.Tests.{eq-eqb, ne-eqb, lt-ltb, le-ltb, le-leb, lt-leb}
-use Rattle.table.specs.Nodes.{Node, nodeOf, blank, at, above, allBlank, fits, nodesInOrder, goodPlaces}
+use Rattle.table.specs.Nodes.{Node, nodeOf, at, above, allBlank, fits, nodesInOrder, goodPlaces}
 use Rattle.table.specs.Columns.{rows}
 use Rattle.table.proofs.Written.{length-rows}
 use Rattle.table.proofs.Chain.{rows-var, rows-at}
-
--- ---- zeros
-
-pub blank-step : (vs ls hs : List ℕ) (i to : ℕ) → length ls ≡ length vs → length hs ≡ length vs → i < to → to ≤ length vs
-    → allBlank (take (to - i) (drop i (rows vs ls hs)))
-    ≡ ((eqb (getD vs i 0) 0 && (eqb (getD ls i 0) 0 && eqb (getD hs i 0) 0))
-    && allBlank (take (to - (i + 1)) (drop (i + 1) (rows vs ls hs))))
-unfolding allBlank
-blank-step vs ls hs i to p q lt within =
-    let n : to - i ≡ suc (to - (i + 1)) = omega arith in
-    ap (λ (m : ℕ). allBlank (take m (drop i (rows vs ls hs)))) n
-    ∙ ap (λ (u : List Node). allBlank (take (suc (to - (i + 1))) u))
-    (drop-cons (rows vs ls hs) i blank (omega (arith, length-rows vs ls hs p q)))
-    ∙ rw (add-one, rows-at vs ls hs p q i)
-
-pub blank-end : (t : List Node) (i to : ℕ) → to ≤ i → allBlank (take (to - i) (drop i t)) ≡ true
-unfolding allBlank
-blank-end t i to le = let n : to - i ≡ 0 = omega arith in ap (λ (m : ℕ). allBlank (take m (drop i t))) n
 
 -- ---- one node
 
