@@ -13,7 +13,7 @@ WORDS = {
     "causes": "a refusal's cause, defined", "pieces": "the piece shown", "traces": "literals fixed, by round",
     "why": "14's child, 18's assignment", "record_causes": "14's and 18's cause", "remake": "a line's records again", "tell": "19's cause",
     "path_causes": "19's, of a path line", "clause_causes": "19's, of a DRAT clause", "command_causes": "the cause of a command",
-    "line_again": "the refused state again", "explain": "why a check refuses",
+    "line_again": "the refused state again", "cause_again": "its cause", "explain": "why a check refuses",
     "meaning": "01's rules, defined", "records": "reads the proof", "words": "sets of variables", "table": "nodes, order, index",
     "dimacs": "reads the formula", "grammar": "what DIMACS is", "walks": "values, constants", "clause": "a clause's diagram",
     "verdict": "the check, defined", "operate": "the four operations", "thin": "without a memo", "memo": "results in cells",

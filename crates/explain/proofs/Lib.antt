@@ -1,4 +1,3 @@
 pub mod Explaining
 pub mod Calls
-pub mod Causing
 pub mod Reading

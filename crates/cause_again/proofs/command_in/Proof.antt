@@ -3,8 +3,8 @@ use mathlib.Core.Path.{ap, _∙_}
 use borrow.Author.Needs.{needs}
 use Rattle.commands.specs.declared.Read as code-read
 use Rattle.profile.specs.Admitted.{admitted}
-use Rattle.explain.proofs.call.command_in.Statement.{statement}
-use Rattle.explain.proofs.call.command_in.Tie as tie
+use Rattle.cause_again.proofs.command_in.Statement.{statement}
+use Rattle.cause_again.proofs.command_in.Tie as tie
 
 command-at-requires : tie.Need-command-at-requires
 command-at-requires c κs =

@@ -2,9 +2,9 @@
 use native.Mathlib.Omega.{arith}
 use lib.ListN.{length}
 use Rattle.table.proofs.Zeros.{part-zeros, length-part, length-whole}
-use Rattle.explain.proofs.Causing.{zeros-roomy}
-use Rattle.explain.proofs.call.cause_again.Statement.{statement}
-use Rattle.explain.proofs.call.cause_again.Tie as tie
+use Rattle.cause_again.proofs.Causing.{zeros-roomy}
+use Rattle.cause_again.proofs.cause_again.Statement.{statement}
+use Rattle.cause_again.proofs.cause_again.Tie as tie
 
 slice-aggregate-cause-over : tie.Need-slice-aggregate-cause-over
 slice-aggregate-cause-over c =

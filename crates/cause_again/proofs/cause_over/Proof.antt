@@ -9,9 +9,9 @@ use Rattle.conflict.specs.Marks.{unmarked}
 use Rattle.verdict.specs.Check.{zeros}
 use Rattle.state.specs.States.{Lent, lentOf}
 use Rattle.command_causes.specs.Causes.{toldBy}
-use Rattle.explain.proofs.Causing.{command-asks, cause-asks, cause-told, drop-asks, dropped-columns, lists-back}
-use Rattle.explain.proofs.call.cause_over.Statement.{statement}
-use Rattle.explain.proofs.call.cause_over.Tie as tie
+use Rattle.cause_again.proofs.Causing.{command-asks, cause-asks, cause-told, drop-asks, dropped-columns, lists-back}
+use Rattle.cause_again.proofs.cause_over.Statement.{statement}
+use Rattle.cause_again.proofs.cause_over.Tie as tie
 
 module _ (s : tie.Start) where
   abbrev lent : Lent
