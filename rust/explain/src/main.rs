@@ -122,8 +122,8 @@ fn main() -> ExitCode {
     if explanation.number == Number::NotRefused {
         return ExitCode::SUCCESS;
     }
-    let in_proof = explanation.text == Some(Text::Proof) && mode.form == Form::Records;
-    let mut found = in_proof.then(|| line::find(&proof, explanation.place)).flatten();
+    let has_record = explanation.text == Some(Text::Proof) && mode.form == Form::Records && !explanation.piece.is_empty();
+    let mut found = has_record.then(|| line::find(&proof, explanation.place)).flatten();
     let said = told(&explanation, mode, &formula, found.as_mut());
     if let Some(name) = picture {
         match drawn(found.as_ref(), &formula) {
