@@ -149,7 +149,7 @@ disorders =
 abbrev formula : List ℕ
 formula = bytes "p cnf 1 1\n1 0\n"
 
--- Two faults: 7 before 26; 26 before 35, before 8, and before what a bound book repeats.
+-- Two faults: 7 before 26; 26 before 35, and before what a bound book repeats.
 abbrev pub orders : List Row
 orders =
     row (stored 8) 5 (lists 8 5 2 (ownOne 8)) 4095 (kept 9 77 99 65 1025 1025 268435457 4 4 9) end (refusal 7)
