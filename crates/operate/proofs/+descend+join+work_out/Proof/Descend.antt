@@ -168,8 +168,10 @@ enum-known-a t c =
 
 work-out-requires : (t : ℕ) → descend-lts.Need-work-out-requires (descend-callees t) (descend-at t) descend.Post
 work-out-requires t c κs =
-    let d = a-from-work-out-call c in
-    (omega (arith, d-measure (start-from-work-out-call c), d-one d .after, d-one d .most), (record { operands = d-one d .operands; right = d-ready (start-from-work-out-call c) .right }, d-one-shared d))
+    let d = a-from-work-out-call c in (
+      omega (arith, d-measure (start-from-work-out-call c), d-one d .after, d-one d .most),
+      (record { operands = d-one d .operands; right = d-ready (start-from-work-out-call c) .right }, d-one-shared d),
+    )
 
 enum-known-s : (t : ℕ) → descend-lts.Need-enum-known-s (descend-callees t) (descend-at t) descend.Post
 enum-known-s t c =
@@ -179,7 +181,11 @@ join-requires : (t : ℕ) → descend-lts.Need-join-requires (descend-callees t)
 join-requires t c κs =
     let d = s-from-join-call c in (
       omega (arith, d-measure (start-from-join-call c), d-both d .variable),
-      (record { operands = d-both d .operands; right = d-ready (start-from-join-call c) .right }, d-side-shared d _ _ (d-both d .low-of), d-side-shared d _ _ (d-both d .high-of)),
+      (
+        record { operands = d-both d .operands; right = d-ready (start-from-join-call c) .right },
+        d-side-shared d _ _ (d-both d .low-of),
+        d-side-shared d _ _ (d-both d .high-of),
+      ),
     )
 
 same-length : (t : ℕ) → descend-lts.Need-same-length (descend-callees t) (descend-at t) descend.Post

@@ -44,16 +44,19 @@ module _ {t : ℕ} (s : work-out-lts.Start (work-out-callees t) (work-out-at t) 
   a-shared = s .pre .1 .1
 
   a-terminal : (k : ℕ) → terminalOf a-op a-f a-g ≡ At (record { 0 = k }) → Right a-op a-table a-f a-g k
-  a-terminal = terminal-right a-table (a-ready .operands .good) a-f a-g (a-ready .operands .f-inside) (a-ready .operands .g-inside) a-op (a-ready .operands .allowed)
+  a-terminal = terminal-right a-table (a-ready .operands .good) a-f a-g (a-ready .operands .f-inside) (a-ready .operands .g-inside) a-op
+      (a-ready .operands .allowed)
 
   a-two : terminalOf a-op a-f a-g ≡ Nothing → 2 ≤ a-f
-  a-two = terminal-two a-table (a-ready .operands .good) a-f a-g (a-ready .operands .f-inside) (a-ready .operands .g-inside) a-op (a-ready .operands .allowed)
+  a-two = terminal-two a-table (a-ready .operands .good) a-f a-g (a-ready .operands .f-inside) (a-ready .operands .g-inside) a-op
+      (a-ready .operands .allowed)
 
   a-variable : 2 ≤ a-f → (1 ≤ getD (a-table .vars) a-f 0) × (getD (a-table .vars) a-f 0 ≤ 64)
   a-variable = variable-fits a-table (a-ready .operands .good) a-f a-g (a-ready .operands .f-inside) (a-ready .operands .g-inside)
 
   a-beyond : 2 ≤ a-f → beyond (s .args .kind) (s .args .by) (getD (a-table .vars) a-f 0) ≡ true → Right a-op a-table a-f a-g a-f
-  a-beyond two = beyond-right a-table (a-ready .operands .good) a-f a-g (a-ready .operands .f-inside) (a-ready .operands .g-inside) two (s .args .kind) (s .args .by)
+  a-beyond two = beyond-right a-table (a-ready .operands .good) a-f a-g (a-ready .operands .f-inside) (a-ready .operands .g-inside) two
+      (s .args .kind) (s .args .by)
       (a-ready .operands .allowed) a-shared
 
 -- The ways back, written by ways.py: TO-from-FROM leads from the place FROM of the code to the place TO before it.
