@@ -31,6 +31,8 @@ use Rattle.supports.specs.Supports.{Support, Forced, Supports}
 use Rattle.meaning.proofs.Uses.{literals-uses, literals-apart, cofactor-uses, cofactor-apart}
 use Rattle.supports.proofs.Words.{support-left, support-right}
 use Rattle.table.specs.Lists.{Inside}
+use Rattle.thin.specs.Thin.{Cut}
+use Rattle.members.proofs.Cutting.{literals-agree, cut-positive, cut-negative}
 use Rattle.members.specs.Touching.{Touches, Apart, reworded}
 
 -- words without a variable in common
@@ -90,6 +92,17 @@ module _ (t : Table) (G : Good t) where
         common = λ v p q. in-and word touching v ∙ ap₂ _&&_ p q;
       }
       touched-shared (Literals p n) touches = tt
+
+      -- a cofactor by literals is that by those of the member's variables
+      pub touched-cut : (op : Operation) → Touches op E touching → Cut op (bitAnd word touching) t f g
+      unfolding result Support
+      touched-cut Conjunction touches = absurd touches
+      touched-cut Negation touches = absurd touches
+      touched-cut Cofactor touches = refl
+      touched-cut (Literals p n) touches =
+          subst (λ (w : ℕ). Cut (Literals p n) (bitAnd word w) t f g) (sym touches)
+          (literals-agree 64 (inWord (bitAnd p (bitAnd word (bitOr p n)))) (inWord (bitAnd n (bitAnd word (bitOr p n)))) (inWord p)
+          (inWord n) (inWord word) (λ v q. (cut-positive p n word v q, cut-negative p n word v q)) F (reduced f f-inside) has)
 
       pub untouched : (op : Operation) → Operands op t f g → Touches op E touching → bitAnd word touching ≡ 0
           → record { table = t; full = false; node = f } ≡ applied t op f g

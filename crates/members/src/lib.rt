@@ -33,6 +33,9 @@ fn apply_touching(
     heads: &mut [u16],
     links: &mut [u16],
     memo: &mut [u64],
+    xs: &mut [u8],
+    told: &mut [u16],
+    sides: &mut [u8],
     count: usize,
     op: Operation,
     f: NodeNo,
@@ -45,6 +48,7 @@ fn apply_touching(
         Ready op (now memo) before (f .0) (g .0)
         × Support word (diagramAt (nodesOf before) (f .0))
         × Touches op (diagramAt (nodesOf before) (g .0)) touching) ⌝ }
+    requires { ⌜ (length (now xs) ≡ 64) × (length (now told) ≡ 64) × (length (now sides) ≡ 64) ⌝ }
     ensures { λ r. ⌜ (
         let before = tableOf (now (vars .entry)) (now (lows .entry)) (now (highs .entry)) (now (heads .entry)) (now (links .entry)) count in
         outcomeOf (now (vars .exit)) (now (lows .exit)) (now (highs .exit)) (now (heads .exit)) (now (links .exit)) r
@@ -59,6 +63,9 @@ fn apply_touching(
         highs,
         heads,
         links,
+        xs,
+        told,
+        sides,
         count,
         op,
         f,
@@ -103,6 +110,9 @@ fn member_by(
     memo: &mut [u64],
     list: &mut [u16],
     words: &mut [u64],
+    xs: &mut [u8],
+    told: &mut [u16],
+    sides: &mut [u8],
     count: usize,
     op: Operation,
     g: NodeNo,
@@ -117,6 +127,7 @@ fn member_by(
         × Ready op (now memo) before (getD (now list) i 0) (g .0)
         × Support (getD (now words) i 0) (diagramAt (nodesOf before) (getD (now list) i 0))
         × Touches op (diagramAt (nodesOf before) (g .0)) touching) ⌝ }
+    requires { ⌜ (length (now xs) ≡ 64) × (length (now told) ≡ 64) × (length (now sides) ≡ 64) ⌝ }
     ensures { λ r. ⌜ (
         let before = tableOf (now (vars .entry)) (now (lows .entry)) (now (highs .entry)) (now (heads .entry)) (now (links .entry)) count in
         let after = tableOf (now (vars .exit)) (now (lows .exit)) (now (highs .exit)) (now (heads .exit)) (now (links .exit)) (r .count) in
@@ -134,6 +145,9 @@ fn member_by(
         heads,
         links,
         memo,
+        xs,
+        told,
+        sides,
         count,
         op,
         f,
@@ -202,6 +216,9 @@ pub fn all_by(
         r .written ≡ differing (diagramsOf (nodesOf before) (now (list .entry))) (results op before (now (list .entry)) (g .0))) ⌝ }
 {
     memo::clear_memo(memo);
+    let mut xs = [0u8; 64];
+    let mut told = [0u16; 64];
+    let mut sides = [0u8; 64];
     let mut n = count;
     let mut written: usize = 0;
     let mut k: usize = 0;
@@ -216,6 +233,9 @@ pub fn all_by(
             memo,
             list,
             words,
+            &mut xs,
+            &mut told,
+            &mut sides,
             n,
             op,
             g,

@@ -1,3 +1,5 @@
 pub mod Building
 pub mod Stepping
 pub mod Descending
+pub mod LiteralSteps
+pub mod Cutting

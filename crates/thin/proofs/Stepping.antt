@@ -64,7 +64,8 @@ module _ (kind : Kind) (by : words.Literals) (t : Table) (f g : ℕ) (H : Given 
       beyond-all p true q =
           let w : found f ≡ At k = is-beyond (t .vars) kind by f g p q ∙ e in
           subst (Right op t f g) (ap number w)
-          (beyond-right t (H .operands .good) f g (H .operands .f-inside) (H .operands .g-inside) (given-two op (by .positive) t f g H p) kind by
+          (beyond-right t (H .operands .good) f g (H .operands .f-inside) (H .operands .g-inside) (given-two op (by .positive) t f g H p)
+          kind by
           (H .operands .allowed) (H .share) q)
       beyond-all p false q =
           let w : Nothing ≡ At k = not-beyond (t .vars) kind by f g p q ∙ e in let z : _≡_ {A = ℕ} 0 1 = cc in absurd (omega arith)
@@ -117,8 +118,14 @@ module _ (kind : Kind) (by : words.Literals) (t : Table) (s : Sides) (H : SidesG
   pub high-told : (k : NodeNo) → settledOf (t .vars) kind by (s .f1 .0) (s .g1 .0) ≡ At k
       → StepSays op₂ (by .positive) t (s .x) (joinedAt op₂ t s) (Over (s .x) k 0 (s .f0) (s .g0))
   high-told k e =
-      let r = settled-right kind by t (s .f1 .0) (s .g1 .0) (high-given op₂ (by .positive) t s H) k e in
-      (low-given op₂ (by .positive) t s H, omega arith, H .operands .most, H .operands .low-after, r .inside, ap (branch (s .x) low) (r .is))
+      let r = settled-right kind by t (s .f1 .0) (s .g1 .0) (high-given op₂ (by .positive) t s H) k e in (
+        low-given op₂ (by .positive) t s H,
+        omega arith,
+        H .operands .most,
+        H .operands .low-after,
+        r .inside,
+        ap (branch (s .x) low) (r .is),
+      )
 
 -- ---- a step from two nodes
 

@@ -5,6 +5,7 @@ use mathlib.Core.List.{List}
 use Prim.Native.Nat.{ℕ, zero, suc, _≤_, _<_}
 use lib.ListN.{length, getD}
 use lib.Dec.{eqb}
+use lib.Bits.{bitAnd}
 use Rattle.meaning.specs.Diagram.{Diagram, branch}
 use Rattle.meaning.specs.Reduced.{Reduced}
 use Rattle.table.specs.declared.Found.{Found}
@@ -13,7 +14,9 @@ use Rattle.table.specs.Nodes.{diagramAt, place}
 use Rattle.table.specs.Indexed.{Table, tableOf, size, nodesOf, Outcome, written}
 use Rattle.words.specs.declared.Literals as words
 use Rattle.operate.specs.declared.Operation.{Operation}
+use Rattle.operate.specs.declared.Operation.the-variants.{Conjunction, Negation, Cofactor, Literals}
 use Rattle.operate.specs.declared.step.Kind.{Kind}
+use Rattle.operate.specs.declared.step.Kind.the-variants.{ByLiterals}
 use Rattle.operate.specs.declared.step.Sides.{Sides}
 use Rattle.operate.specs.Operate.{result}
 use Rattle.operate.specs.Inner.{operationOf, terminalOf, beyond, found, top, Shared, Operands, SideOperands}
@@ -36,6 +39,26 @@ orBeyond vars kind by f Nothing = cond (beyond kind by (getD vars f 0)) (found f
 -- The result where it is told without a step.
 abbrev pub settledOf : List ℕ → Kind → words.Literals → ℕ → ℕ → Found
 settledOf vars kind by f g = orBeyond vars kind by f (terminalOf (operationOf kind by) f g)
+
+-- ---- a cofactor by literals
+
+abbrev pub byLiterals : words.Literals → Operation
+byLiterals by = Literals (by .positive) (by .negative)
+
+-- The result where it is told without a step.
+abbrev pub settledBy : List ℕ → words.Literals → ℕ → Found
+settledBy vars by f = settledOf vars ByLiterals by f 1
+
+-- The literals of the word's variables.
+abbrev pub cutBy : words.Literals → ℕ → words.Literals
+cutBy by word = record { positive = bitAnd (by .positive) word; negative = bitAnd (by .negative) word }
+
+-- The operation with these alone.
+abbrev pub cutTo : Operation → ℕ → Operation
+cutTo Conjunction word = Conjunction
+cutTo Negation word = Negation
+cutTo Cofactor word = Cofactor
+cutTo (Literals p n) word = Literals (bitAnd p word) (bitAnd n word)
 
 -- ---- a step down
 
@@ -69,6 +92,10 @@ pub record SomeSides (op : Operation) (shared : ℕ) (vars : List ℕ) (s : Side
 -- What the operation makes of two nodes.
 abbrev pub resultAt : Operation → Table → ℕ → ℕ → Diagram
 resultAt op t f g = result op (diagramAt (nodesOf t) f) (diagramAt (nodesOf t) g)
+
+-- The literals of the word's variables make of the nodes what all do.
+abbrev pub Cut : Operation → ℕ → Table → ℕ → ℕ → Type 0
+Cut op word t f g = resultAt (cutTo op word) t f g ≡ resultAt op t f g
 
 -- What it makes of two sides.
 abbrev pub joinedAt : Operation → Table → Sides → Diagram

@@ -17,7 +17,9 @@ ghost use Rattle.table.specs.Nodes.{diagramAt};
 ghost use Rattle.table.specs.Indexed.{tableOf, nodesOf, Good, outcomeOf};
 ghost use Rattle.operate.specs.Inner.{applied, operationOf, top, Shared, Operands};
 ghost use Rattle.thin.specs.Thin.{Leveled, settledOf, SomeGiven, SidesGiven, SomeSides, Given};
-ghost use Rattle.thin.specs.Thin.{resultAt, joinedAt, StepSays, Fitting, CameBy, builtUp};
+ghost use Rattle.thin.specs.Thin.{resultAt, joinedAt, StepSays, Fitting, CameBy, builtUp, cutBy, Cut};
+
+mod literals;
 
 // The result where it can be told without a step: from the node numbers, or where f comes after all that is shared.
 fn settled(vars: &[u8], kind: Kind, by: Literals, f: NodeNo, g: NodeNo) -> Found
@@ -175,6 +177,34 @@ fn go_down(
     }
 }
 
+// The way down of an operation: a cofactor by literals has one of its own.
+fn way_down(
+    vars: &[u8],
+    lows: &[u16],
+    highs: &[u16],
+    xs: &mut [u8],
+    told: &mut [u16],
+    sides: &mut [u8],
+    kind: Kind,
+    by: Literals,
+    first: NodeNo,
+    second: NodeNo,
+) -> Came
+    requires { ⌜ SomeGiven (operationOf kind by) (by .positive) (now vars) (now lows) (now highs) (first .0) (second .0)
+        × (length (now xs) ≡ 64)
+        × (length (now told) ≡ 64)
+        × (length (now sides) ≡ 64) ⌝ }
+    ensures { λ r. ⌜ ((heads links : List ℕ) (count : ℕ) →
+        let before = tableOf (now (vars .entry)) (now (lows .entry)) (now (highs .entry)) heads links count in
+        CameBy (operationOf kind by) (by .positive) before (first .0) (second .0) (now (xs .exit)) (now (told .exit)) (now (sides .exit))
+        r) ⌝ }
+{
+    match kind {
+        Kind::ByLiterals => literals::go_down_by(vars, lows, highs, xs, told, sides, by, first),
+        _ => go_down(vars, lows, highs, xs, told, sides, kind, by, first, second),
+    }
+}
+
 // The way up: the steps written are put over the node, the last of them first, or it stops at `full`.
 fn build_up(
     vars: &mut [u8],
@@ -232,13 +262,27 @@ pub struct ThinResult {
     pub placed: Placed,
 }
 
-// As `apply_sharing`, without a memo; or `wide` where both sides of a step have more to come.
+// The literals of the word's variables.
+fn cut_to(by: Literals, word: u64) -> Literals
+    ensures { λ r. ⌜ r ≡ cutBy by word ⌝ }
+{
+    Literals {
+        positive: by.positive & word,
+        negative: by.negative & word,
+    }
+}
+
+// As `apply_sharing`, without a memo; or `wide` where both sides of a step have more to come. A cofactor by literals has those of the
+// variables in `shared` alone. The steps are written into `xs`, `told` and `sides`.
 pub fn apply_thin(
     vars: &mut [u8],
     lows: &mut [u16],
     highs: &mut [u16],
     heads: &mut [u16],
     links: &mut [u16],
+    xs: &mut [u8],
+    told: &mut [u16],
+    sides: &mut [u8],
     count: usize,
     op: Operation,
     f: NodeNo,
@@ -247,7 +291,8 @@ pub fn apply_thin(
 ) -> ThinResult
     requires { ⌜ (
         let before = tableOf (now vars) (now lows) (now highs) (now heads) (now links) count in
-        Operands op before (f .0) (g .0) × Shared op shared before (f .0) (g .0)) ⌝ }
+        Operands op before (f .0) (g .0) × Shared op shared before (f .0) (g .0) × Cut op shared before (f .0) (g .0)) ⌝ }
+    requires { ⌜ (length (now xs) ≡ 64) × (length (now told) ≡ 64) × (length (now sides) ≡ 64) ⌝ }
     ensures { λ r. ⌜ (
         let before = tableOf (now (vars .entry)) (now (lows .entry)) (now (highs .entry)) (now (heads .entry)) (now (links .entry)) count in
         r .wide ≡ false →
@@ -259,22 +304,8 @@ pub fn apply_thin(
         tableOf (now (vars .exit)) (now (lows .exit)) (now (highs .exit)) (now (heads .exit)) (now (links .exit)) count ≡ before) ⌝ }
 {
     let kind = operate::step::kind_of(op);
-    let by = operate::step::by_of(op, shared);
-    let mut xs = [0u8; 64];
-    let mut told = [0u16; 64];
-    let mut sides = [0u8; 64];
-    match go_down(
-        vars,
-        lows,
-        highs,
-        &mut xs,
-        &mut told,
-        &mut sides,
-        kind,
-        by,
-        f,
-        g,
-    ) {
+    let by = cut_to(operate::step::by_of(op, shared), shared);
+    match way_down(vars, lows, highs, xs, told, sides, kind, by, f, g) {
         Came::Down { node, depth } => {
             let placed = build_up(
                 vars,
@@ -282,9 +313,9 @@ pub fn apply_thin(
                 highs,
                 heads,
                 links,
-                &xs,
-                &told,
-                &sides,
+                xs,
+                told,
+                sides,
                 count,
                 node,
                 depth,

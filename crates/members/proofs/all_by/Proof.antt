@@ -19,17 +19,20 @@ use Rattle.members.proofs.all_by.Statement.{statement}
 use Rattle.members.proofs.all_by.Tie as tie
 
 abbrev Inv-loop : tie.InvT-loop
-Inv-loop vars₀ lows₀ highs₀ heads₀ links₀ memo₀ list₀ words₀ places count op g gained touching n₀ written₀ k₀ vars lows highs heads links
-    memo list words n written k =
+Inv-loop vars₀ lows₀ highs₀ heads₀ links₀ memo₀ list₀ words₀ places count op g gained touching xs₀ told₀ sides₀ n₀ written₀ k₀ vars lows highs
+    heads links memo list words xs told sides n written k =
     Making op (g .0) (tableOf vars₀ lows₀ highs₀ heads₀ links₀ count) list₀ words₀ (tableOf vars lows highs heads links n) list words memo
     (getD places k (length list₀)) written
     × (length vars ≡ length vars₀) × (length lows ≡ length lows₀) × (length highs ≡ length highs₀) × (length heads ≡ length heads₀)
     × (length links ≡ length links₀)
     × (length memo ≡ length memo₀)
+    × (length xs ≡ 64)
+    × (length told ≡ 64)
+    × (length sides ≡ 64)
 
 abbrev μ-loop : tie.MeasureT-loop
-μ-loop vars₀ lows₀ highs₀ heads₀ links₀ memo₀ list₀ words₀ places count op g gained touching n₀ written₀ k₀ vars lows highs heads links memo
-    list words n written k = length places - k
+μ-loop vars₀ lows₀ highs₀ heads₀ links₀ memo₀ list₀ words₀ places count op g gained touching xs₀ told₀ sides₀ n₀ written₀ k₀ vars lows highs
+    heads links memo list words xs told sides n written k = length places - k
 
 abbrev entry : tie.Start Inv-loop μ-loop → Table
 entry s = let a = s .args in tableOf (a .vars .now) (a .lows .now) (a .highs .now) (a .heads .now) (a .links .now) (a .count)
@@ -84,9 +87,9 @@ module _ (c : tie.After-shared-slice-known2 Inv-loop μ-loop) where
   abbrev at-loop-from-shared-slice-read-i : tie.At-loop Inv-loop μ-loop
   at-loop-from-shared-slice-read-i = at-loop-from-in-loop (c .before)
 
-module _ (c : tie.After-member-by-arg8 Inv-loop μ-loop) where
+module _ (c : tie.After-sides Inv-loop μ-loop) where
   abbrev in-loop-from-member-by-call : tie.In-loop Inv-loop μ-loop
-  in-loop-from-member-by-call = c .before .before .before .before .before .before .before .before .before
+  in-loop-from-member-by-call = c .before .before .before .before .before .before .before .before .before .before .before .before
 
   abbrev at-loop-from-member-by-call : tie.At-loop Inv-loop μ-loop
   at-loop-from-member-by-call = at-loop-from-in-loop in-loop-from-member-by-call
@@ -101,7 +104,7 @@ module _ (c : tie.After-member-by Inv-loop μ-loop) where
 module _ (c : tie.After-struct-known Inv-loop μ-loop) where
   abbrev member-by-from-add-written : tie.After-member-by Inv-loop μ-loop
   member-by-from-add-written = c .before .before .before .before .before .before .before .before .before .before .before .before .before
-      .before .before .before .before
+      .before .before .before .before .before .before .before
 
   abbrev in-loop-from-add-written : tie.In-loop Inv-loop μ-loop
   in-loop-from-add-written = in-loop-from-member-by member-by-from-add-written
@@ -186,6 +189,9 @@ loop-holds c =
       refl,
       refl,
       refl,
+      refl,
+      refl,
+      refl,
     )
 
 mul-i : tie.Need-mul-i Inv-loop μ-loop
@@ -197,6 +203,15 @@ shared-slice-read-i c = search needs
 cast-i : tie.Need-cast-i Inv-loop μ-loop
 cast-i c = omega (arith, c .shared-slice-known2 .given (at-loop-from-shared-slice-read-i c .loop .k))
 
+slice-aggregate-member-by : tie.Need-slice-aggregate-member-by Inv-loop μ-loop
+slice-aggregate-member-by c = search needs
+
+slice-aggregate-member-by-2 : tie.Need-slice-aggregate-member-by-2 Inv-loop μ-loop
+slice-aggregate-member-by-2 c = search needs
+
+slice-aggregate-member-by-3 : tie.Need-slice-aggregate-member-by-3 Inv-loop μ-loop
+slice-aggregate-member-by-3 c = search needs
+
 member-by-requires : tie.Need-member-by-requires Inv-loop μ-loop
 member-by-requires c κs =
     let s = start-from-member-by-call c in
@@ -205,14 +220,17 @@ member-by-requires c κs =
     let i = in-loop-from-member-by-call c in
     let l = at-loop-from-member-by-call c in
     let w = l .loop in (
-      this-inside i,
-      omega (arith, so-far i .rewords .lengths, so-far i .members .members, r .1 .0, this-inside i),
-      ready (a .op) (a .g .0) (a .gained) (a .touching) (entry s) (a .list .now) (a .words .now) (a .memo .now) (r .0 .0) (r .0 .1)
-          (r .0 .2) (r .1 .0) (r .1 .2) (r .1 .3) (here l) (w .list) (w .words) (w .memo) (this i) (w .written) (so-far i) (this-inside i),
-      has (a .op) (a .g .0) (a .gained) (a .touching) (entry s) (a .list .now) (a .words .now) (a .memo .now) (r .0 .0) (r .0 .1) (r .0 .2)
-          (r .1 .0) (r .1 .2) (r .1 .3) (here l) (w .list) (w .words) (w .memo) (this i) (w .written) (so-far i) (this-inside i),
-      touches-here (a .op) (a .g .0) (a .gained) (a .touching) (entry s) (a .list .now) (a .words .now) (a .memo .now) (r .0 .0) (r .0 .1)
-          (r .0 .2) (r .1 .0) (r .1 .2) (r .1 .3) (here l) (w .list) (w .words) (w .memo) (this i) (w .written) (so-far i) (this-inside i),
+      (
+        this-inside i,
+        omega (arith, so-far i .rewords .lengths, so-far i .members .members, r .1 .0, this-inside i),
+        ready (a .op) (a .g .0) (a .gained) (a .touching) (entry s) (a .list .now) (a .words .now) (a .memo .now) (r .0 .0) (r .0 .1)
+            (r .0 .2) (r .1 .0) (r .1 .2) (r .1 .3) (here l) (w .list) (w .words) (w .memo) (this i) (w .written) (so-far i) (this-inside i),
+        has (a .op) (a .g .0) (a .gained) (a .touching) (entry s) (a .list .now) (a .words .now) (a .memo .now) (r .0 .0) (r .0 .1) (r .0 .2)
+            (r .1 .0) (r .1 .2) (r .1 .3) (here l) (w .list) (w .words) (w .memo) (this i) (w .written) (so-far i) (this-inside i),
+        touches-here (a .op) (a .g .0) (a .gained) (a .touching) (entry s) (a .list .now) (a .words .now) (a .memo .now) (r .0 .0) (r .0 .1)
+            (r .0 .2) (r .1 .0) (r .1 .2) (r .1 .3) (here l) (w .list) (w .words) (w .memo) (this i) (w .written) (so-far i) (this-inside i),
+      ),
+      (w .inv .7, w .inv .8, w .inv .9),
     )
 
 add-written : tie.Need-add-written Inv-loop μ-loop
@@ -302,6 +320,9 @@ loop-again c =
       y .kept .1 .1 .1 .0 ∙ w .inv .4,
       y .kept .1 .1 .1 .1 .0 ∙ w .inv .5,
       y .kept .1 .1 .1 .1 .1 .0 ∙ w .inv .6,
+      y .kept .1 .1 .1 .1 .1 .1 .1 .1 .0 ∙ w .inv .7,
+      y .kept .1 .1 .1 .1 .1 .1 .1 .1 .1 .0 ∙ w .inv .8,
+      y .kept .1 .1 .1 .1 .1 .1 .1 .1 .1 .1 .0 ∙ w .inv .9,
     )
 
 same-length-9 : tie.Need-same-length-9 Inv-loop μ-loop
@@ -362,6 +383,9 @@ all-by-spec =
     mul-i
     shared-slice-read-i
     cast-i
+    slice-aggregate-member-by
+    slice-aggregate-member-by-2
+    slice-aggregate-member-by-3
     member-by-requires
     add-written
     same-length

@@ -8,7 +8,8 @@ use Rattle.table.specs.Indexed.{Table, tableOf, outcomeOf}
 use Rattle.operate.specs.Inner.{applied, Shared, Ready}
 use Rattle.operate.proofs.Results.{applied-longer}
 use Rattle.operate.proofs.RightMemo.{memo-kept, follows-right}
-use Rattle.members.proofs.Touching.{touched-shared}
+use Rattle.thin.specs.Thin.{Cut}
+use Rattle.members.proofs.Touching.{touched-shared, touched-cut}
 use Rattle.members.proofs.apply_touching.Statement.{statement}
 use Rattle.members.proofs.apply_touching.Tie as tie
 
@@ -19,14 +20,23 @@ entry s = let a = s .args in tableOf (a .vars .now) (a .lows .now) (a .highs .no
 shares : (s : tie.Start) → let a = s .args in Shared (a .op) (bitAnd (a .word) (a .touching)) (entry s) (a .f .0) (a .g .0)
 shares s =
     let a = s .args in
-    let r = s .pre .0 .operands in
-    touched-shared (entry s) (r .good) (a .f .0) (a .g .0) (r .f-inside) (r .g-inside) (a .word) (a .touching) (s .pre .1) (a .op)
-    (s .pre .2)
+    let r = s .pre .0 .0 .operands in
+    touched-shared (entry s) (r .good) (a .f .0) (a .g .0) (r .f-inside) (r .g-inside) (a .word) (a .touching) (s .pre .0 .1) (a .op)
+    (s .pre .0 .2)
+
+-- its literals are enough
+cut : (s : tie.Start) → let a = s .args in Cut (a .op) (bitAnd (a .word) (a .touching)) (entry s) (a .f .0) (a .g .0)
+cut s =
+    let a = s .args in
+    let r = s .pre .0 .0 .operands in
+    touched-cut (entry s) (r .good) (a .f .0) (a .g .0) (r .f-inside) (r .g-inside) (a .word) (a .touching) (s .pre .0 .1) (a .op)
+    (s .pre .0 .2)
 
 -- The ways back, written by ways.py: TO-from-FROM leads from the place FROM of the code to the place TO before it.
-module _ (c : tie.After-apply-thin-arg5) where
+module _ (c : tie.After-apply-thin-arg8) where
   abbrev start-from-apply-thin-call : tie.Start
-  start-from-apply-thin-call = c .before .before .before .before .before .before .before .before .before .before .before
+  start-from-apply-thin-call = c .before .before .before .before .before .before .before .before .before .before .before .before .before
+      .before .before .before .before
 
 module _ (c : tie.After-apply-thin) where
   abbrev start-from-apply-thin : tie.Start
@@ -34,7 +44,8 @@ module _ (c : tie.After-apply-thin) where
 
 module _ (c : tie.After-struct-known) where
   abbrev apply-thin-from-struct-known : tie.After-apply-thin
-  apply-thin-from-struct-known = c .before .before .before .before .before .before .before .before .before .before .before
+  apply-thin-from-struct-known = c .before .before .before .before .before .before .before .before .before .before .before .before .before
+      .before .before .before .before
 
 module _ (c : tie.Else1) where
   abbrev apply-thin-from-else1 : tie.After-apply-thin
@@ -67,7 +78,7 @@ module _ (c : tie.After-apply-sharing-arg6) where
   abbrev start-from-apply-sharing-call : tie.Start
   start-from-apply-sharing-call = start-from-else1 else1-from-apply-sharing-call
 
-module _ (c : tie.After-slice-known18) where
+module _ (c : tie.After-slice-known24) where
   abbrev apply-sharing-from-return-2 : tie.After-apply-sharing
   apply-sharing-from-return-2 = c .before .before .before .before .before .before .before .before .before .before .before .before
 
@@ -90,7 +101,7 @@ apply-thin-requires : tie.Need-apply-thin-requires
 apply-thin-requires c κs =
     let s = start-from-apply-thin-call c in
     let a = s .args in
-    (s .pre .0 .operands, shares s)
+    ((s .pre .0 .0 .operands, shares s, cut s), s .pre .1)
 
 same-length : tie.Need-same-length
 same-length c = search needs
@@ -107,11 +118,20 @@ same-length-4 c = search needs
 same-length-5 : tie.Need-same-length-5
 same-length-5 c = search needs
 
+same-length-6 : tie.Need-same-length-6
+same-length-6 c = search needs
+
+same-length-7 : tie.Need-same-length-7
+same-length-7 c = search needs
+
+same-length-8 : tie.Need-same-length-8
+same-length-8 c = search needs
+
 returns : tie.Need-returns
 returns c =
     let s = start-from-return c in
     let a = s .args in
-    let r = s .pre .0 in
+    let r = s .pre .0 .0 in
     let y = apply-thin-from-return c .apply-thin in
     let o = outcomeOf (y .last .0) (y .last .1 .0) (y .last .1 .1 .0) (y .last .1 .1 .1 .0) (y .last .1 .1 .1 .1 .0) (y .result .placed) in
     let e = y .ensures .0 (not-true _ (then1-from-return c .if1 .taken)) in (
@@ -122,13 +142,13 @@ returns c =
 
 clear-forgetful-requires : tie.Need-clear-forgetful-requires
 clear-forgetful-requires c κs =
-    start-from-clear-forgetful-call c .pre .0 .right .shaped
+    start-from-clear-forgetful-call c .pre .0 .0 .right .shaped
 
 apply-sharing-requires : tie.Need-apply-sharing-requires
 apply-sharing-requires c κs =
     let s = start-from-apply-sharing-call c in
     let a = s .args in
-    let r = s .pre .0 in
+    let r = s .pre .0 .0 in
     subst (λ (t : Table). Ready (a .op) (clear-forgetful-from-apply-sharing-call c .clear-forgetful .last .0) t (a .f .0) (a .g .0)
     × Shared (a .op) (bitAnd (a .word) (a .touching)) t (a .f .0) (a .g .0)) (sym (left (else1-from-apply-sharing-call c))) (
       record {
@@ -138,24 +158,32 @@ apply-sharing-requires c κs =
       shares s,
     )
 
-same-length-6 : tie.Need-same-length-6
-same-length-6 c = apply-sharing-from-return-2 c .apply-sharing .kept .0 ∙ apply-thin-from-return-2 c .apply-thin .kept .0
-
-same-length-7 : tie.Need-same-length-7
-same-length-7 c = apply-sharing-from-return-2 c .apply-sharing .kept .1 .0 ∙ apply-thin-from-return-2 c .apply-thin .kept .1 .0
-
-same-length-8 : tie.Need-same-length-8
-same-length-8 c = apply-sharing-from-return-2 c .apply-sharing .kept .1 .1 .0 ∙ apply-thin-from-return-2 c .apply-thin .kept .1 .1 .0
-
 same-length-9 : tie.Need-same-length-9
-same-length-9 c = apply-sharing-from-return-2 c .apply-sharing .kept .1 .1 .1 .0 ∙ apply-thin-from-return-2 c .apply-thin .kept .1 .1 .1 .0
+same-length-9 c = apply-sharing-from-return-2 c .apply-sharing .kept .0 ∙ apply-thin-from-return-2 c .apply-thin .kept .0
 
 same-length-10 : tie.Need-same-length-10
-same-length-10 c = apply-sharing-from-return-2 c .apply-sharing .kept .1 .1 .1 .1 .0
-    ∙ apply-thin-from-return-2 c .apply-thin .kept .1 .1 .1 .1 .0
+same-length-10 c = apply-sharing-from-return-2 c .apply-sharing .kept .1 .0 ∙ apply-thin-from-return-2 c .apply-thin .kept .1 .0
 
 same-length-11 : tie.Need-same-length-11
-same-length-11 c = search needs
+same-length-11 c = apply-sharing-from-return-2 c .apply-sharing .kept .1 .1 .0 ∙ apply-thin-from-return-2 c .apply-thin .kept .1 .1 .0
+
+same-length-12 : tie.Need-same-length-12
+same-length-12 c = apply-sharing-from-return-2 c .apply-sharing .kept .1 .1 .1 .0 ∙ apply-thin-from-return-2 c .apply-thin .kept .1 .1 .1 .0
+
+same-length-13 : tie.Need-same-length-13
+same-length-13 c = apply-sharing-from-return-2 c .apply-sharing .kept .1 .1 .1 .1 .0 ∙ apply-thin-from-return-2 c .apply-thin .kept .1 .1 .1 .1 .0
+
+same-length-14 : tie.Need-same-length-14
+same-length-14 c = search needs
+
+same-length-15 : tie.Need-same-length-15
+same-length-15 c = search needs
+
+same-length-16 : tie.Need-same-length-16
+same-length-16 c = search needs
+
+same-length-17 : tie.Need-same-length-17
+same-length-17 c = search needs
 
 returns-2 : tie.Need-returns-2
 returns-2 c =
@@ -174,13 +202,19 @@ apply-touching-spec =
     same-length-3
     same-length-4
     same-length-5
-    returns
-    clear-forgetful-requires
-    apply-sharing-requires
     same-length-6
     same-length-7
     same-length-8
+    returns
+    clear-forgetful-requires
+    apply-sharing-requires
     same-length-9
     same-length-10
     same-length-11
+    same-length-12
+    same-length-13
+    same-length-14
+    same-length-15
+    same-length-16
+    same-length-17
     returns-2)
