@@ -10,6 +10,7 @@ use native.Mathlib.Omega.{arith}
 use native.Mathlib.Decide.{ℕ-discrete}
 use lib.ListN.{length, getD}
 use lib.Dec.{eqb, ltb}
+use borrow.Table.Steps.{cases}
 use borrow.Author.Tests.{lt-ltb, ltb-true, eq-eqb, ne-eqb, eqb-true, eqb-false}
 use Rattle.meaning.proofs.Booleans.{t≢f, not-true, both-ways, and-both}
 use Rattle.table.proofs.Order.{both-true}
@@ -17,10 +18,6 @@ use Rattle.table.specs.Indexed.{Table}
 use Rattle.good_order.specs.Tested.{Decides, chainAt, AllInChain, HeadsFit, many, zerosIn}
 
 -- ---- how many pass a test
-
-by : {P : Type 0} (b : Bool) → (b ≡ true → P) → (b ≡ false → P) → P
-by true p q = p refl
-by false p q = q refl
 
 module _ (p : ℕ → Bool) where
   many-none : many p 0 ≡ 0
@@ -37,7 +34,7 @@ module _ (p : ℕ → Bool) where
 
   pub many-most : (n : ℕ) → many p n ≤ n
   many-most zero = omega (arith, many-none)
-  many-most (suc n) = by (p n) (λ e. omega (arith, many-yes n e, many-most n)) (λ e. omega (arith, many-no n e, many-most n))
+  many-most (suc n) = cases (p n) (λ e. omega (arith, many-yes n e, many-most n)) (λ e. omega (arith, many-no n e, many-most n))
 
   many-empty : ((b : ℕ) → p b ≡ true → ⊥) → (n : ℕ) → many p n ≡ 0
   many-empty never zero = many-none
@@ -49,7 +46,7 @@ module _ (p q : ℕ → Bool) where
   many-same (suc n) same =
       let m : many p n ≡ many q n = many-same n (λ b lt. same b (omega arith)) in
       let e : p n ≡ q n = same n (omega arith) in
-      by (p n) (λ y. many-yes p n y ∙ ap suc m ∙ sym (many-yes q n (sym e ∙ y))) (λ y. many-no p n y ∙ m ∙ sym (many-no q n (sym e ∙ y)))
+      cases (p n) (λ y. many-yes p n y ∙ ap suc m ∙ sym (many-yes q n (sym e ∙ y))) (λ y. many-no p n y ∙ m ∙ sym (many-no q n (sym e ∙ y)))
 
   -- q holds of one number more
   many-one : (a n : ℕ) → a < n → p a ≡ false → q a ≡ true → ((b : ℕ) → b < n → b ≢ a → p b ≡ q b) → many q n ≡ suc (many p n)
@@ -61,7 +58,7 @@ module _ (p q : ℕ → Bool) where
     | no z ↦
         let m : many q n ≡ suc (many p n) = many-one a n (omega (arith, z)) out inside (λ b l. same b (omega arith)) in
         let e : p n ≡ q n = same n (omega arith) z in
-        by (p n) (λ y. many-yes q n (sym e ∙ y) ∙ ap suc m ∙ ap suc (sym (many-yes p n y)))
+        cases (p n) (λ y. many-yes q n (sym e ∙ y) ∙ ap suc m ∙ ap suc (sym (many-yes p n y)))
         (λ y. many-no q n (sym e ∙ y) ∙ m ∙ ap suc (sym (many-no p n y)))
   ]
 
@@ -69,18 +66,18 @@ module _ (p q : ℕ → Bool) where
 module _ (p q : ℕ → Bool) (apart : (b : ℕ) → p b ≡ true → q b ≡ false) where
   both-most : (n : ℕ) → many p n + many q n ≤ n
   both-most zero = omega (arith, many-none p, many-none q)
-  both-most (suc n) = by (p n) (λ x. omega (arith, both-most n, many-yes p n x, many-no q n (apart n x)))
-      (λ x. by (q n) (λ y. omega (arith, both-most n, many-no p n x, many-yes q n y))
+  both-most (suc n) = cases (p n) (λ x. omega (arith, both-most n, many-yes p n x, many-no q n (apart n x)))
+      (λ x. cases (q n) (λ y. omega (arith, both-most n, many-no p n x, many-yes q n y))
       (λ y. omega (arith, both-most n, many-no p n x, many-no q n y)))
 
   all-each : (n : ℕ) → many p n + many q n ≡ n → (b : ℕ) → b < n → q b ≡ false → p b ≡ true
   all-each zero all b lt e = absurd (omega arith)
-  all-each (suc n) all b lt e = by (p n)
+  all-each (suc n) all b lt e = cases (p n)
       (λ x. elim (ℕ-discrete b n) [
         | yes z ↦ ap p z ∙ x
         | no z ↦ all-each n (omega (arith, all, many-yes p n x, many-no q n (apart n x))) b (omega (arith, z)) e
       ])
-      (λ x. by (q n)
+      (λ x. cases (q n)
       (λ y. elim (ℕ-discrete b n) [
         | yes z ↦ t≢f (sym y ∙ ap q (sym z) ∙ e)
         | no z ↦ all-each n (omega (arith, all, many-no p n x, many-yes q n y)) b (omega (arith, z)) e
@@ -91,8 +88,8 @@ module _ (p q : ℕ → Bool) (apart : (b : ℕ) → p b ≡ true → q b ≡ fa
   each-all zero each = omega (arith, many-none p, many-none q)
   each-all (suc n) each =
       let rest : many p n + many q n ≡ n = each-all n (λ b lt. each b (omega arith)) in
-      by (q n)
-      (λ y. by (p n) (λ x. t≢f (sym y ∙ apart n x)) (λ x. omega (arith, rest, many-no p n x, many-yes q n y)))
+      cases (q n)
+      (λ y. cases (p n) (λ x. t≢f (sym y ∙ apart n x)) (λ x. omega (arith, rest, many-no p n x, many-yes q n y)))
       (λ y. omega (arith, rest, many-yes p n (each n (omega arith) y), many-no q n y))
 
 -- ---- zeros of a column, counted on

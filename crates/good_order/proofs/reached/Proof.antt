@@ -173,8 +173,8 @@ loop-again c = let next = walk-next _ (start-from-loop-again c .pre .0 .0) (star
     (λ w. ⊎-elim (λ u. next (rw (eq-eqb _ _ (u .0 .taken), u .2 .left))) (λ u. next (rw (ne-eqb _ _ (u .left)))) w) (c .before .if3 .came)
 
 returns-4 : tie.Need-returns-4 Inv-loop μ-loop
-returns-4 c = walk-end _ (start-from-then6 c .pre .0 .0) (start-from-then6 c .pre .1) _ _ (c .if6 .taken)
-    (at-loop-from-then6 c .loop .inv)
+returns-4 c = walk-end _ (start-from-then6 c .pre .0 .0) (start-from-then6 c .pre .1) _ _
+    (omega (arith, c .if6 .taken, start-from-then6 c .pre .0 .1)) (at-loop-from-then6 c .loop .inv)
 
 returns-5 : tie.Need-returns-5 Inv-loop μ-loop
 returns-5 c = walk-found _ (start-from-else6 c .pre .0 .0) (start-from-else6 c .pre .1) _ _ (at-loop-from-else6 c .loop .inv)
