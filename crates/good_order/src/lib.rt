@@ -184,7 +184,7 @@ fn reached(
 }
 
 // Whether each node is on its chain, and none is met on the way that is like it: every two of a chain are compared once. And whether each
-// head is 0 or a node of its chain: no node heads two chains, so it is where heads that are 0 and nodes that are heads are as many as heads.
+// head is 0 or a node of its chain, by counting: no node heads two chains, so the zeros and the nodes that are heads are then all heads.
 fn index_fits(
     vars: &[u8],
     lows: &[u16],
