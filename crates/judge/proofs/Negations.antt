@@ -41,10 +41,12 @@ module _ (T : Table) (list memo : List ℕ) (g : ℕ) (R : Negatable T list memo
   pub negation-ready : (memo′ : List ℕ) → MemoRight Negation memo′ T → Ready Negation memo′ T g 1
   negation-ready memo′ right =
       record {
-        good = R .ready .good;
-        f-inside = R .inside;
-        g-inside = omega (arith, R .ready .good .least);
-        allowed = refl;
+        operands = record {
+          good = R .ready .good;
+          f-inside = R .inside;
+          g-inside = omega (arith, R .ready .good .least);
+          allowed = refl;
+        };
         right = right;
       }
 

@@ -62,10 +62,12 @@ module _ (T : Table) (list memo : List ℕ) (R : ListReady T list memo) (f p n :
   pub literals-ready : (memo′ : List ℕ) → MemoRight (Literals p n) memo′ T → Ready (Literals p n) memo′ T f 1
   literals-ready memo′ right =
       record {
-        good = R .good;
-        f-inside = inside;
-        g-inside = omega (arith, R .good .least);
-        allowed = refl;
+        operands = record {
+          good = R .good;
+          f-inside = inside;
+          g-inside = omega (arith, R .good .least);
+          allowed = refl;
+        };
         right = right;
       }
 

@@ -79,7 +79,8 @@ module _ (op : Operation) (g gained touching : ℕ) (T₀ : Table) (list₀ word
       subst (Making op g T₀ list₀ words₀ T list words memo (i + 1)) (plus-zero written)
       (making-next (record { full = false; node = record { 0 = k }; written = 0; count = T .count }) T list words memo
       (one-kept op T list words g gained i (record { full = false; node = record { 0 = k }; count = T .count }) T
-      (untouched T (ready .good) k g (ready .f-inside) (ready .g-inside) (getD words i 0) touching has op memo ready touches-here apart)
+      (untouched T (ready .operands .good) k g (ready .operands .f-inside) (ready .operands .g-inside) (getD words i 0) touching has op
+      (ready .operands) touches-here apart)
       (inr refl)) refl (W .members .right))
     where
       k : ℕ

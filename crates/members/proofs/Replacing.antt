@@ -88,10 +88,12 @@ module _ (op : Operation) (g : ℕ) (T₀ : Table) (list₀ memo₀ : List ℕ) 
     pub member-ready : Ready op memo T (getD list i 0) g
     member-ready =
         record {
-          good = W .long .good;
-          f-inside = omega (arith, member-inside, W .long .more);
-          g-inside = omega (arith, W .long .more);
-          allowed = allowed;
+          operands = record {
+            good = W .long .good;
+            f-inside = omega (arith, member-inside, W .long .more);
+            g-inside = omega (arith, W .long .more);
+            allowed = allowed;
+          };
           right = W .right;
         }
 

@@ -23,7 +23,7 @@ use Rattle.table.proofs.Outcomes.{Longer}
 use Rattle.operate.specs.declared.Operation.{Operation}
 use Rattle.operate.specs.declared.Operation.the-variants.{Conjunction, Negation, Cofactor, Literals}
 use Rattle.operate.specs.Operate.{result}
-use Rattle.operate.specs.Inner.{applied, Allowed, Shared, Ready}
+use Rattle.operate.specs.Inner.{applied, Allowed, Shared, Operands}
 use Rattle.operate.proofs.Levels.{zero-is}
 use Rattle.operate.proofs.Results.{known-outcome}
 use Rattle.meaning.proofs.Words.{in-and, in-or, in-none}
@@ -91,10 +91,10 @@ module _ (t : Table) (G : Good t) where
       }
       touched-shared (Literals p n) touches = tt
 
-      pub untouched : (op : Operation) (memo : List ℕ) → Ready op memo t f g → Touches op E touching → bitAnd word touching ≡ 0
+      pub untouched : (op : Operation) → Operands op t f g → Touches op E touching → bitAnd word touching ≡ 0
           → record { table = t; full = false; node = f } ≡ applied t op f g
-      untouched op memo R touches e =
-          known-outcome op memo t f g R f (record {
+      untouched op R touches e =
+          known-outcome op t f g R f (record {
             f-inside = f-inside;
             g-inside = g-inside;
             inside = f-inside;

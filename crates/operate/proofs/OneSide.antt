@@ -41,7 +41,7 @@ module _ {op : Operation} {memo : List ℕ} {t : Table} {f g : ℕ} where
       SideKept op memo t f g (record { table = t; full = false; node = r .0 }) memo
   home-kept R r tells = record {
     left = record {
-      is = known-outcome op memo t f g R (r .0) (R .right .entries f g (r .0) tells);
+      is = known-outcome op t f g (R .operands) (r .0) (R .right .entries f g (r .0) tells);
       vars = refl;
       lows = refl;
       highs = refl;

@@ -23,7 +23,7 @@ use Rattle.operate.specs.declared.Operation.the-variants.{Conjunction, N
 use Rattle.operate.specs.declared.step.Sides.{Sides}
 use Rattle.meaning.specs.Words.{inWord}
 use Rattle.operate.specs.Operate.{result}
-use Rattle.operate.specs.Inner.{applied, joinedOf, Allowed, level, top, Shared, Right, MemoRight, Ready, SidesReady}
+use Rattle.operate.specs.Inner.{applied, joinedOf, Allowed, level, top, Shared, Right, Operands, SideOperands, MemoRight, Ready}
 use Rattle.operate.proofs.RightMemo.{memo-kept}
 use Rattle.operate.proofs.Levels.{top-first, top-second, diagramOf, zero-is, level-reduced}
 use Rattle.operate.proofs.Sharing.{shared-kept}
@@ -64,7 +64,7 @@ top-kept t t′ G L f g p q = rw (level-kept t t′ G L f p, level-kept t t′ G
 
 -- ---- one operation
 
-module _ (op : Operation) (memo : List ℕ) (t : Table) (f g : ℕ) (R : Ready op memo t f g) where
+module _ (op : Operation) (t : Table) (f g : ℕ) (R : Operands op t f g) where
   abbrev F : Diagram
   F = diagramAt (nodesOf t) f
 
@@ -100,7 +100,7 @@ module _ (op : Operation) (memo : List ℕ) (t : Table) (f g : ℕ) (R : Ready o
 
 -- ---- two sides
 
-module _ (op : Operation) (memo : List ℕ) (t : Table) (s : Sides) (R : SidesReady op memo t s) (o₁ : Outcome)
+module _ (op : Operation) (t : Table) (s : Sides) (R : SideOperands op t s) (o₁ : Outcome)
     (e₁ : o₁ ≡ applied t op (s .f0 .0) (s .g0 .0)) where
   abbrev D : ℕ → Diagram
   D k = diagramAt (nodesOf t) k
@@ -115,7 +115,7 @@ module _ (op : Operation) (memo : List ℕ) (t : Table) (s : Sides) (R : SidesRe
   good = R .low .good
 
   low-grown : Grown t low o₁
-  low-grown = applied-grown op memo t (s .f0 .0) (s .g0 .0) (R .low) o₁ e₁
+  low-grown = applied-grown op t (s .f0 .0) (s .g0 .0) (R .low) o₁ e₁
 
   low-longer : Longer t (o₁ .table)
   low-longer = longer t low o₁ low-grown
@@ -126,10 +126,12 @@ module _ (op : Operation) (memo : List ℕ) (t : Table) (s : Sides) (R : SidesRe
   -- the high side can be done next
   pub high-ready : (memo₁ : List ℕ) → MemoRight op memo₁ (o₁ .table) → Ready op memo₁ (o₁ .table) (s .f1 .0) (s .g1 .0)
   high-ready memo₁ right = record {
-    good = low-grown .good;
-    f-inside = omega (arith, R .high .f-inside, low-grown .more);
-    g-inside = omega (arith, R .high .g-inside, low-grown .more);
-    allowed = R .high .allowed;
+    operands = record {
+      good = low-grown .good;
+      f-inside = omega (arith, R .high .f-inside, low-grown .more);
+      g-inside = omega (arith, R .high .g-inside, low-grown .more);
+      allowed = R .high .allowed;
+    };
     right = right;
   }
 

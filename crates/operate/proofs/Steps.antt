@@ -27,7 +27,7 @@ use Rattle.operate.specs.declared.step.Descent.{Descent}
 use Rattle.operate.specs.declared.step.Descent.the-variants.{One, Both}
 use Rattle.meaning.specs.Words.{inWord}
 use Rattle.operate.specs.Operate.{result}
-use Rattle.operate.specs.Inner.{applied, joinedOf, Allowed, level, top, sidesOf, descentOf, Ready, SidesReady}
+use Rattle.operate.specs.Inner.{applied, joinedOf, Allowed, level, top, sidesOf, descentOf, Operands, SideOperands}
 use Rattle.operate.proofs.Levels.{top-first, top-second, top-both, top-is-first, diagramOf, is-zero, is-one, zero-is, one-is}
 use Rattle.operate.proofs.Levels.{level-constant, level-least, level-most, level-reduced, child, Child, child-of, own, node-is}
 use Rattle.operate.proofs.Sharing.{SideOf}
@@ -174,8 +174,8 @@ module _ (t : Table) (G : Good t) (f g : ℕ) (f-inside : f < t .count) (g-insid
 -- ---- as the code meets it
 
 -- One pair of nodes is left to do.
-pub record OneLeft (op : Operation) (memo : List ℕ) (t : Table) (f g a b : ℕ) : Type 0 where
-  pub ready : Ready op memo t a b
+pub record OneLeft (op : Operation) (t : Table) (f g a b : ℕ) : Type 0 where
+  pub operands : Operands op t a b
   pub side-of : SideOf t f g a b
   pub most : top (t .vars) f g ≤ 64
   pub after : top (t .vars) f g < top (t .vars) a b
@@ -183,8 +183,8 @@ pub record OneLeft (op : Operation) (memo : List ℕ) (t : Table) (f g a b : ℕ
   pub is : applied t op a b ≡ applied t op f g
 
 -- Both sides are.
-pub record BothLeft (op : Operation) (memo : List ℕ) (t : Table) (f g : ℕ) (s : Sides) : Type 0 where
-  pub ready : SidesReady op memo t s
+pub record BothLeft (op : Operation) (t : Table) (f g : ℕ) (s : Sides) : Type 0 where
+  pub operands : SideOperands op t s
   pub low-of : SideOf t f g (s .f0 .0) (s .g0 .0)
   pub high-of : SideOf t f g (s .f1 .0) (s .g1 .0)
   pub variable : s .x ≡ top (t .vars) f g
@@ -194,7 +194,7 @@ pub record BothLeft (op : Operation) (memo : List ℕ) (t : Table) (f g : ℕ) (
       (result op (diagramAt (nodesOf t) (s .f1 .0)) (diagramAt (nodesOf t) (s .g1 .0)))
   pub is : joinedOf t op s ≡ applied t op f g
 
-module _ (op : Operation) (memo : List ℕ) (t : Table) (f g : ℕ) (R : Ready op memo t f g) (two : 2 ≤ f) where
+module _ (op : Operation) (t : Table) (f g : ℕ) (R : Operands op t f g) (two : 2 ≤ f) where
   pub sides-ask : (s : Sides) → s ≡ sides t f g → (1 ≤ s .x) × (s .x ≤ 64)
   unfolding sidesOf
   sides-ask s e =
@@ -207,13 +207,12 @@ module _ (op : Operation) (memo : List ℕ) (t : Table) (f g : ℕ) (R : Ready o
   abbrev Q : Bool → ℕ
   Q = g-side t (R .good) f g (R .f-inside) (R .g-inside) two
 
-  side-ready : (b : Bool) → Allowed op (Q b) → Ready op memo t (P b) (Q b)
-  side-ready b allowed = record {
+  side-operands : (b : Bool) → Allowed op (Q b) → Operands op t (P b) (Q b)
+  side-operands b allowed = record {
     good = R .good;
     f-inside = f-child t (R .good) f g (R .f-inside) (R .g-inside) two b .inside;
     g-inside = g-child t (R .good) f g (R .f-inside) (R .g-inside) two b .inside;
     allowed = allowed;
-    right = R .right;
   }
 
   own-side : (b : Bool) → SideOf t f g (P b) (Q b)
@@ -227,7 +226,7 @@ module _ (op : Operation) (memo : List ℕ) (t : Table) (f g : ℕ) (R : Ready o
   step : Stepped t (R .good) f g (R .f-inside) (R .g-inside) two op
   step = stepped t (R .good) f g (R .f-inside) (R .g-inside) two op (R .allowed)
 
-  pub step-one : (a b : NodeNo) → descentOf op (sides t f g) ≡ One a b → OneLeft op memo t f g (a .0) (b .0)
+  pub step-one : (a b : NodeNo) → descentOf op (sides t f g) ≡ One a b → OneLeft op t f g (a .0) (b .0)
   step-one a b e = go step
     where
       first : Descent → ℕ
@@ -238,12 +237,12 @@ module _ (op : Operation) (memo : List ℕ) (t : Table) (f g : ℕ) (R : Ready o
       second (One a b) = b .0
       second (Both s) = 0
 
-      go : Stepped t (R .good) f g (R .f-inside) (R .g-inside) two op → OneLeft op memo t f g (a .0) (b .0)
+      go : Stepped t (R .good) f g (R .f-inside) (R .g-inside) two op → OneLeft op t f g (a .0) (b .0)
       go (one c p q r) =
           let w : One (record { 0 = P c }) (record { 0 = Q c }) ≡ One a b = sym p ∙ e in
-          subst (λ (k : ℕ). OneLeft op memo t f g k (b .0)) (ap first w) (subst (λ (k : ℕ). OneLeft op memo t f g (P c) k) (ap second w)
+          subst (λ (k : ℕ). OneLeft op t f g k (b .0)) (ap first w) (subst (λ (k : ℕ). OneLeft op t f g (P c) k) (ap second w)
           (record {
-            ready = side-ready c q;
+            operands = side-operands c q;
             side-of = own-side c;
             most = top-most t (R .good) f g (R .f-inside) (R .g-inside) two;
             after = after t (R .good) f g (R .f-inside) (R .g-inside) two c;
@@ -252,7 +251,7 @@ module _ (op : Operation) (memo : List ℕ) (t : Table) (f g : ℕ) (R : Ready o
           }))
       go (both p q r) = let w : Both (sides t f g) ≡ One a b = sym p ∙ e in let z : _≡_ {A = ℕ} 0 1 = cc in absurd (omega arith)
 
-  pub step-both : (s : Sides) → descentOf op (sides t f g) ≡ Both s → BothLeft op memo t f g s
+  pub step-both : (s : Sides) → descentOf op (sides t f g) ≡ Both s → BothLeft op t f g s
   unfolding sidesOf
   step-both s e = go step
     where
@@ -260,16 +259,16 @@ module _ (op : Operation) (memo : List ℕ) (t : Table) (f g : ℕ) (R : Ready o
       whole (One a b) = s
       whole (Both r) = r
 
-      go : Stepped t (R .good) f g (R .f-inside) (R .g-inside) two op → BothLeft op memo t f g s
+      go : Stepped t (R .good) f g (R .f-inside) (R .g-inside) two op → BothLeft op t f g s
       go (one c p q r) =
           let w : One (record { 0 = P c }) (record { 0 = Q c }) ≡ Both s = sym p ∙ e in let z : _≡_ {A = ℕ} 0 1 = cc in absurd (omega arith)
       go (both p q r) =
           let w : Both (sides t f g) ≡ Both s = sym p ∙ e in
-          subst (BothLeft op memo t f g) (ap whole w)
+          subst (BothLeft op t f g) (ap whole w)
           (record {
-            ready = record {
-              low = side-ready false (q false);
-              high = side-ready true (q true);
+            operands = record {
+              low = side-operands false (q false);
+              high = side-operands true (q true);
               least = top-least t (R .good) f g (R .f-inside) (R .g-inside) two;
               most = top-most t (R .good) f g (R .f-inside) (R .g-inside) two;
               low-after = after t (R .good) f g (R .f-inside) (R .g-inside) two false;

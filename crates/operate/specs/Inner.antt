@@ -131,6 +131,24 @@ Shared Negation shared t f g = Unit {0}
 Shared Cofactor shared t f g = Sharing shared (diagramAt (nodesOf t) f) (diagramAt (nodesOf t) g)
 Shared (Literals p n) shared t f g = Unit {0}
 
+-- ---- what an operation asks of its operands
+
+-- Two nodes of a table in good order that the operation can have.
+pub record Operands (op : Operation) (t : Table) (f g : ℕ) : Type 0 where
+  pub good : Good t
+  pub f-inside : f < t .count
+  pub g-inside : g < t .count
+  pub allowed : Allowed op g
+
+-- Two sides, each with operands, whose variables come after x.
+pub record SideOperands (op : Operation) (t : Table) (s : Sides) : Type 0 where
+  pub low : Operands op t (s .f0 .0) (s .g0 .0)
+  pub high : Operands op t (s .f1 .0) (s .g1 .0)
+  pub least : 1 ≤ s .x
+  pub most : s .x ≤ 64
+  pub low-after : s .x < top (t .vars) (s .f0 .0) (s .g0 .0)
+  pub high-after : s .x < top (t .vars) (s .f1 .0) (s .g1 .0)
+
 -- ---- the memo
 
 -- An entry is right: node r is the operation's result on f and g.
@@ -145,19 +163,12 @@ pub record MemoRight (op : Operation) (memo : List ℕ) (t : Table) : Type 0 whe
   pub shaped : Shaped memo
   pub entries : (f g r : ℕ) → Holds memo f g r → Right op t f g r
 
--- What the recursion asks.
+-- What the recursion asks: operands, and a memo that is right.
 pub record Ready (op : Operation) (memo : List ℕ) (t : Table) (f g : ℕ) : Type 0 where
-  pub good : Good t
-  pub f-inside : f < t .count
-  pub g-inside : g < t .count
-  pub allowed : Allowed op g
+  pub operands : Operands op t f g
   pub right : MemoRight op memo t
 
--- What joining two sides asks: both sides ready, and their variables after x.
+-- What joining two sides asks.
 pub record SidesReady (op : Operation) (memo : List ℕ) (t : Table) (s : Sides) : Type 0 where
-  pub low : Ready op memo t (s .f0 .0) (s .g0 .0)
-  pub high : Ready op memo t (s .f1 .0) (s .g1 .0)
-  pub least : 1 ≤ s .x
-  pub most : s .x ≤ 64
-  pub low-after : s .x < top (t .vars) (s .f0 .0) (s .g0 .0)
-  pub high-after : s .x < top (t .vars) (s .f1 .0) (s .g1 .0)
+  pub operands : SideOperands op t s
+  pub right : MemoRight op memo t

@@ -80,15 +80,15 @@ module _ (t : Table) (xs told sides : List ℕ) (p x k side : ℕ) where
 module _ (op : Operation) (shared : ℕ) (t : Table) (f g : ℕ) (H : Given op shared t f g) where
   top-least : 1 ≤ top (t .vars) f g
   top-least =
-      top-both (t .vars) f g 1 (level-least t (H .ready .good) f (H .ready .f-inside))
-      (level-least t (H .ready .good) g (H .ready .g-inside))
+      top-both (t .vars) f g 1 (level-least t (H .operands .good) f (H .operands .f-inside))
+      (level-least t (H .operands .good) g (H .operands .g-inside))
 
   pub top-within : top (t .vars) f g ≤ 65
   top-within = go (decLt f 2)
     where
       go : Dec (f < 2) → top (t .vars) f g ≤ 65
-      go (yes p) = omega (arith, top-first (t .vars) f g, level-constant t (H .ready .good) f p)
-      go (no n) = omega (arith, top-first (t .vars) f g, level-most t (H .ready .good) f (H .ready .f-inside) (omega (arith, n)))
+      go (yes p) = omega (arith, top-first (t .vars) f g, level-constant t (H .operands .good) f p)
+      go (no n) = omega (arith, top-first (t .vars) f g, level-most t (H .operands .good) f (H .operands .f-inside) (omega (arith, n)))
 
 -- From `first` and `second` the way has come to f and g, with `depth` steps written.
 pub record GoingDown (op : Operation) (shared : ℕ) (t : Table) (first second : ℕ) (xs told sides : List ℕ) (f g depth : ℕ) : Type 0 where

@@ -1,4 +1,3 @@
 pub mod Building
-pub mod Passing
 pub mod Stepping
 pub mod Descending

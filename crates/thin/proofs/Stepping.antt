@@ -24,7 +24,7 @@ use Rattle.operate.proofs.Steps.{sides, OneLeft, BothLeft, step-one, step-both}
 use Rattle.operate.proofs.Results.{columns-hold}
 use Rattle.thin.specs.declared.StepDown.{StepDown}
 use Rattle.thin.specs.declared.StepDown.the-variants.{Told, One, Over}
-use Rattle.thin.specs.Thin.{noMemo, Leveled, orBeyond, settledOf, Given, SidesGiven, resultAt, joinedAt, StepSays}
+use Rattle.thin.specs.Thin.{Leveled, orBeyond, settledOf, Given, SidesGiven, resultAt, joinedAt, StepSays}
 
 number : Found → ℕ
 number (At k) = k .0
@@ -45,12 +45,12 @@ module _ (vars : List ℕ) (kind : Kind) (by : words.Literals) (f g : ℕ) where
 
 module _ (op : Operation) (shared : ℕ) (t : Table) (f g : ℕ) (H : Given op shared t f g) where
   given-two : terminalOf op f g ≡ Nothing → 2 ≤ f
-  given-two = terminal-two t (H .ready .good) f g (H .ready .f-inside) (H .ready .g-inside) op (H .ready .allowed)
+  given-two = terminal-two t (H .operands .good) f g (H .operands .f-inside) (H .operands .g-inside) op (H .operands .allowed)
 
   pub given-leveled : Leveled op (t .vars) f g
   given-leveled e =
-      let v = variable-fits t (H .ready .good) f g (H .ready .f-inside) (H .ready .g-inside) (given-two e) in
-      (columns-hold op noMemo t f g (H .ready) .0, v .0, v .1)
+      let v = variable-fits t (H .operands .good) f g (H .operands .f-inside) (H .operands .g-inside) (given-two e) in
+      (columns-hold op t f g (H .operands) .0, v .0, v .1)
 
 module _ (kind : Kind) (by : words.Literals) (t : Table) (f g : ℕ) (H : Given (operationOf kind by) (by .positive) t f g) where
   abbrev op : Operation
@@ -64,14 +64,14 @@ module _ (kind : Kind) (by : words.Literals) (t : Table) (f g : ℕ) (H : Given 
       beyond-all p true q =
           let w : found f ≡ At k = is-beyond (t .vars) kind by f g p q ∙ e in
           subst (Right op t f g) (ap number w)
-          (beyond-right t (H .ready .good) f g (H .ready .f-inside) (H .ready .g-inside) (given-two op (by .positive) t f g H p) kind by
-          (H .ready .allowed) (H .share) q)
+          (beyond-right t (H .operands .good) f g (H .operands .f-inside) (H .operands .g-inside) (given-two op (by .positive) t f g H p) kind by
+          (H .operands .allowed) (H .share) q)
       beyond-all p false q =
           let w : Nothing ≡ At k = not-beyond (t .vars) kind by f g p q ∙ e in let z : _≡_ {A = ℕ} 0 1 = cc in absurd (omega arith)
 
       go : (r : Found) → terminalOf op f g ≡ r → Right op t f g (k .0)
       go (At j) p =
-          terminal-right t (H .ready .good) f g (H .ready .f-inside) (H .ready .g-inside) op (H .ready .allowed) (k .0)
+          terminal-right t (H .operands .good) f g (H .operands .f-inside) (H .operands .g-inside) op (H .operands .allowed) (k .0)
           (p ∙ numbers-tell (t .vars) kind by f g j p ∙ e)
       go Nothing p = beyond-all p (beyond kind by (getD (t .vars) f 0)) refl
 
@@ -87,10 +87,10 @@ module _ (kind : Kind) (by : words.Literals) (t : Table) (f g : ℕ) (H : Given 
 
 module _ (op : Operation) (shared : ℕ) (t : Table) (s : Sides) (H : SidesGiven op shared t s) where
   pub low-given : Given op shared t (s .f0 .0) (s .g0 .0)
-  low-given = record { ready = H .ready .low; share = H .low-share }
+  low-given = record { operands = H .operands .low; share = H .low-share }
 
   pub high-given : Given op shared t (s .f1 .0) (s .g1 .0)
-  high-given = record { ready = H .ready .high; share = H .high-share }
+  high-given = record { operands = H .operands .high; share = H .high-share }
 
 module _ (kind : Kind) (by : words.Literals) (t : Table) (s : Sides) (H : SidesGiven (operationOf kind by) (by .positive) t s) where
   abbrev op₂ : Operation
@@ -108,8 +108,8 @@ module _ (kind : Kind) (by : words.Literals) (t : Table) (s : Sides) (H : SidesG
       let r = settled-right kind by t (s .f0 .0) (s .g0 .0) (low-given op₂ (by .positive) t s H) k e in (
         high-given op₂ (by .positive) t s H,
         omega arith,
-        H .ready .most,
-        H .ready .high-after,
+        H .operands .most,
+        H .operands .high-after,
         r .inside,
         ap (λ (d : Diagram). branch (s .x) d high) (r .is),
       )
@@ -118,7 +118,7 @@ module _ (kind : Kind) (by : words.Literals) (t : Table) (s : Sides) (H : SidesG
       → StepSays op₂ (by .positive) t (s .x) (joinedAt op₂ t s) (Over (s .x) k 0 (s .f0) (s .g0))
   high-told k e =
       let r = settled-right kind by t (s .f1 .0) (s .g1 .0) (high-given op₂ (by .positive) t s H) k e in
-      (low-given op₂ (by .positive) t s H, omega arith, H .ready .most, H .ready .low-after, r .inside, ap (branch (s .x) low) (r .is))
+      (low-given op₂ (by .positive) t s H, omega arith, H .operands .most, H .operands .low-after, r .inside, ap (branch (s .x) low) (r .is))
 
 -- ---- a step from two nodes
 
@@ -136,19 +136,19 @@ module _ (kind : Kind) (by : words.Literals) (t : Table) (f g : ℕ) (H : Given 
   module _ (nothing : settledOf (t .vars) kind by f g ≡ Nothing) where
     pub pair-left : (a b : NodeNo) → descentOf op₃ (sides t f g) ≡ descent.One a b → Says (One a b)
     pair-left a b e =
-        let L : OneLeft op₃ noMemo t f g (a .0) (b .0) = step-one op₃ noMemo t f g (H .ready) (settled-two kind by t f g H nothing) a b e in (
-          record { ready = L .ready; share = shared-side op₃ (by .positive) t f g (a .0) (b .0) (L .side-of) (H .share) },
+        let L : OneLeft op₃ t f g (a .0) (b .0) = step-one op₃ t f g (H .operands) (settled-two kind by t f g H nothing) a b e in (
+          record { operands = L .operands; share = shared-side op₃ (by .positive) t f g (a .0) (b .0) (L .side-of) (H .share) },
           L .after,
           sym (L .same),
         )
 
     module _ (s : Sides) (e : descentOf op₃ (sides t f g) ≡ descent.Both s) where
-      both-left : BothLeft op₃ noMemo t f g s
-      both-left = step-both op₃ noMemo t f g (H .ready) (settled-two kind by t f g H nothing) s e
+      both-left : BothLeft op₃ t f g s
+      both-left = step-both op₃ t f g (H .operands) (settled-two kind by t f g H nothing) s e
 
       pub sides-left : SidesGiven op₃ (by .positive) t s
       sides-left = record {
-        ready = both-left .ready;
+        operands = both-left .operands;
         low-share = shared-side op₃ (by .positive) t f g (s .f0 .0) (s .g0 .0) (both-left .low-of) (H .share);
         high-share = shared-side op₃ (by .positive) t f g (s .f1 .0) (s .g1 .0) (both-left .high-of) (H .share);
       }

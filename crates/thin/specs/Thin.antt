@@ -1,7 +1,7 @@
 -- The operations without a memo. No call open to others cites this file.
 use mathlib.Core.Path.{_≡_}
 use mathlib.Core.Bool.{cond}
-use mathlib.Core.List.{List, [], _∷_}
+use mathlib.Core.List.{List}
 use Prim.Native.Nat.{ℕ, zero, suc, _≤_, _<_}
 use lib.ListN.{length, getD}
 use lib.Dec.{eqb}
@@ -16,15 +16,11 @@ use Rattle.operate.specs.declared.Operation.{Operation}
 use Rattle.operate.specs.declared.step.Kind.{Kind}
 use Rattle.operate.specs.declared.step.Sides.{Sides}
 use Rattle.operate.specs.Operate.{result}
-use Rattle.operate.specs.Inner.{operationOf, terminalOf, beyond, found, top, Shared, Ready, SidesReady}
+use Rattle.operate.specs.Inner.{operationOf, terminalOf, beyond, found, top, Shared, Operands, SideOperands}
 use Rattle.thin.specs.declared.StepDown.{StepDown}
 use Rattle.thin.specs.declared.StepDown.the-variants.{Told, One, Over, Wide}
 use Rattle.thin.specs.declared.Came.{Came}
 use Rattle.thin.specs.declared.Came.the-variants.{Down, TooWide}
-
--- A memo without a live cell.
-abbrev pub noMemo : List ℕ
-noMemo = 0 ∷ 0 ∷ 0 ∷ []
 
 -- ---- what is told without a step
 
@@ -45,7 +41,7 @@ settledOf vars kind by f g = orBeyond vars kind by f (terminalOf (operationOf ki
 
 -- The operation on f and g can be done in the table, and the word has what f has of the variables that g forces.
 pub record Given (op : Operation) (shared : ℕ) (t : Table) (f g : ℕ) : Type 0 where
-  pub ready : Ready op noMemo t f g
+  pub operands : Operands op t f g
   pub share : Shared op shared t f g
 
 -- The columns are those of such a table.
@@ -57,7 +53,7 @@ pub record SomeGiven (op : Operation) (shared : ℕ) (vars lows highs : List ℕ
 
 -- The same of two sides, whose variables come after their x.
 pub record SidesGiven (op : Operation) (shared : ℕ) (t : Table) (s : Sides) : Type 0 where
-  pub ready : SidesReady op noMemo t s
+  pub operands : SideOperands op t s
   pub low-share : Shared op shared t (s .f0 .0) (s .g0 .0)
   pub high-share : Shared op shared t (s .f1 .0) (s .g1 .0)
 

@@ -15,8 +15,8 @@ ghost use Prim.Native.Nat.{ℕ, _≤_, _<_};
 ghost use lib.ListN.{length};
 ghost use Rattle.table.specs.Nodes.{diagramAt};
 ghost use Rattle.table.specs.Indexed.{tableOf, nodesOf, Good, outcomeOf};
-ghost use Rattle.operate.specs.Inner.{applied, operationOf, top, Shared, Ready};
-ghost use Rattle.thin.specs.Thin.{noMemo, Leveled, settledOf, SomeGiven, SidesGiven, SomeSides, Given};
+ghost use Rattle.operate.specs.Inner.{applied, operationOf, top, Shared, Operands};
+ghost use Rattle.thin.specs.Thin.{Leveled, settledOf, SomeGiven, SidesGiven, SomeSides, Given};
 ghost use Rattle.thin.specs.Thin.{resultAt, joinedAt, StepSays, Fitting, CameBy, builtUp};
 
 // The result where it can be told without a step: from the node numbers, or where f comes after all that is shared.
@@ -247,7 +247,7 @@ pub fn apply_thin(
 ) -> ThinResult
     requires { ⌜ (
         let before = tableOf (now vars) (now lows) (now highs) (now heads) (now links) count in
-        Ready op noMemo before (f .0) (g .0) × Shared op shared before (f .0) (g .0)) ⌝ }
+        Operands op before (f .0) (g .0) × Shared op shared before (f .0) (g .0)) ⌝ }
     ensures { λ r. ⌜ (
         let before = tableOf (now (vars .entry)) (now (lows .entry)) (now (highs .entry)) (now (heads .entry)) (now (links .entry)) count in
         r .wide ≡ false →

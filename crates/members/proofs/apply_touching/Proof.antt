@@ -6,7 +6,6 @@ use borrow.Author.Needs.{needs}
 use borrow.Author.Tests.{not-true, not-false}
 use Rattle.table.specs.Indexed.{Table, tableOf, outcomeOf}
 use Rattle.operate.specs.Inner.{applied, Shared, Ready}
-use Rattle.thin.proofs.Passing.{without-memo}
 use Rattle.operate.proofs.Results.{applied-longer}
 use Rattle.operate.proofs.RightMemo.{memo-kept, follows-right}
 use Rattle.members.proofs.Touching.{touched-shared}
@@ -20,7 +19,7 @@ entry s = let a = s .args in tableOf (a .vars .now) (a .lows .now) (a .highs .no
 shares : (s : tie.Start) → let a = s .args in Shared (a .op) (bitAnd (a .word) (a .touching)) (entry s) (a .f .0) (a .g .0)
 shares s =
     let a = s .args in
-    let r = s .pre .0 in
+    let r = s .pre .0 .operands in
     touched-shared (entry s) (r .good) (a .f .0) (a .g .0) (r .f-inside) (r .g-inside) (a .word) (a .touching) (s .pre .1) (a .op)
     (s .pre .2)
 
@@ -91,7 +90,7 @@ apply-thin-requires : tie.Need-apply-thin-requires
 apply-thin-requires c κs =
     let s = start-from-apply-thin-call c in
     let a = s .args in
-    (without-memo (a .op) (a .memo .now) (entry s) (a .f .0) (a .g .0) (s .pre .0), shares s)
+    (s .pre .0 .operands, shares s)
 
 same-length : tie.Need-same-length
 same-length c = search needs
@@ -118,7 +117,7 @@ returns c =
     let e = y .ensures .0 (not-true _ (then1-from-return c .if1 .taken)) in (
       e,
       memo-kept (a .op) (a .memo .now) (entry s) (r .right) (o .table)
-          (applied-longer (a .op) (a .memo .now) (entry s) (a .f .0) (a .g .0) r o e),
+          (applied-longer (a .op) (entry s) (a .f .0) (a .g .0) (r .operands) o e),
     )
 
 clear-forgetful-requires : tie.Need-clear-forgetful-requires
@@ -133,10 +132,7 @@ apply-sharing-requires c κs =
     subst (λ (t : Table). Ready (a .op) (clear-forgetful-from-apply-sharing-call c .clear-forgetful .last .0) t (a .f .0) (a .g .0)
     × Shared (a .op) (bitAnd (a .word) (a .touching)) t (a .f .0) (a .g .0)) (sym (left (else1-from-apply-sharing-call c))) (
       record {
-        good = r .good;
-        f-inside = r .f-inside;
-        g-inside = r .g-inside;
-        allowed = r .allowed;
+        operands = r .operands;
         right = follows-right _ _ _ (r .right) _ (clear-forgetful-from-apply-sharing-call c .clear-forgetful .ensures);
       },
       shares s,

@@ -16,10 +16,11 @@ module _ (c : tie.After-slice-known12) where
 apply-sharing-requires : tie.Need-apply-sharing-requires
 apply-sharing-requires c κs =
     let a = start-from-apply-sharing-call c .args in
-    let r = start-from-apply-sharing-call c .pre in (
+    let r = start-from-apply-sharing-call c .pre in
+    let o = r .operands in (
       r,
-      all-shared (tableOf (a .vars .now) (a .lows .now) (a .highs .now) (a .heads .now) (a .links .now) (a .count)) (r .good) (a .f .0)
-          (a .g .0) (r .f-inside) (r .g-inside) (a .op),
+      all-shared (tableOf (a .vars .now) (a .lows .now) (a .highs .now) (a .heads .now) (a .links .now) (a .count)) (o .good) (a .f .0)
+          (a .g .0) (o .f-inside) (o .g-inside) (a .op),
     )
 
 same-length : tie.Need-same-length

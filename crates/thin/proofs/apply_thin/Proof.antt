@@ -10,9 +10,9 @@ use Rattle.table.specs.declared.NodeNo.{NodeNo}
 use Rattle.table.specs.Indexed.{Table, tableOf}
 use Rattle.table.proofs.Outcomes.{placeIn}
 use Rattle.operate.specs.declared.Operation.{Operation}
-use Rattle.operate.specs.Inner.{applied, operationOf, Ready}
+use Rattle.operate.specs.Inner.{applied, operationOf, Operands}
 use Rattle.operate.proofs.Operations.{whole-again, shared-again}
-use Rattle.thin.specs.Thin.{noMemo, Given, CameTo, CameBy, builtUp}
+use Rattle.thin.specs.Thin.{Given, CameTo, CameBy, builtUp}
 use Rattle.thin.proofs.apply_thin.Statement.{statement}
 use Rattle.thin.proofs.apply_thin.Tie as tie
 
@@ -75,7 +75,7 @@ module _ (c : tie.After-by-of) where
 
   given : Given op (c .by-of .result .positive) (entry s) (s .args .f .0) (s .args .g .0)
   given = record {
-    ready = subst (λ (o : Operation). Ready o noMemo (entry s) (s .args .f .0) (s .args .g .0)) (sym same) (s .pre .0);
+    operands = subst (λ (o : Operation). Operands o (entry s) (s .args .f .0) (s .args .g .0)) (sym same) (s .pre .0);
     share =
         shared-again (s .args .op) (s .args .shared) _ _ (kind-of-from-by-of c .kind-of .ensures) (c .by-of .ensures) (entry s)
         (s .args .f .0) (s .args .g .0) (s .pre .1);

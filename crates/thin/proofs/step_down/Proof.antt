@@ -9,7 +9,7 @@ use Rattle.operate.specs.declared.Operation.{Operation}
 use Rattle.operate.specs.Inner.{operationOf, sidesOf, descentOf}
 use Rattle.operate.proofs.Steps.{sides-ask}
 use Rattle.operate.proofs.Results.{columns-hold}
-use Rattle.thin.specs.Thin.{noMemo, settledOf}
+use Rattle.thin.specs.Thin.{settledOf}
 use Rattle.thin.proofs.Stepping.{given-leveled, settled-two, step-told, pair-left, sides-left, sides-say}
 use Rattle.thin.proofs.step_down.Statement.{statement}
 use Rattle.thin.proofs.step_down.Tie as tie
@@ -145,7 +145,7 @@ enum-told c =
 
 sides-of-requires : tie.Need-sides-of-requires
 sides-of-requires c κs =
-    let b = start-from-enum-told c in columns-hold (op b) noMemo (T b) (f b) (g b) (b .pre .given .ready)
+    let b = start-from-enum-told c in columns-hold (op b) (T b) (f b) (g b) (b .pre .given .operands)
 
 operation-of-requires : tie.Need-operation-of-requires
 operation-of-requires c κs =
@@ -155,7 +155,7 @@ descent-of-requires : tie.Need-descent-of-requires
 descent-of-requires c κs =
     let b = start-from-descent-of-call c in
     let y = sides-of-from-descent-of-call c .sides-of in
-    sides-ask (op b) noMemo (T b) (f b) (g b) (b .pre .given .ready)
+    sides-ask (op b) (T b) (f b) (g b) (b .pre .given .operands)
     (settled-two (b .args .kind) (b .args .by) (T b) (f b) (g b) (b .pre .given) (nothing (enum-told-from-descent-of-call c))) (y .result)
     (y .ensures)
 

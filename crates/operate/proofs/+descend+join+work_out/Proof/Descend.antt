@@ -6,7 +6,7 @@ use native.Mathlib.Omega.{arith}
 use borrow.Author.Needs.{needs}
 use Rattle.table.specs.Indexed.{Table, tableOf}
 use Rattle.operate.specs.declared.Operation.{Operation}
-use Rattle.operate.specs.Inner.{operationOf, top, sidesOf, descentOf, Shared, Ready}
+use Rattle.operate.specs.Inner.{operationOf, top, sidesOf, descentOf, Shared, Operands, Ready}
 use Rattle.operate.proofs.Terminals.{terminal-two}
 use Rattle.operate.proofs.Sharing.{SideOf, shared-side}
 use Rattle.operate.proofs.Steps.{sides-ask, OneLeft, BothLeft, step-one, step-both}
@@ -41,7 +41,10 @@ module _ {t : ℕ} (s : descend-lts.Start (descend-callees t) (descend-at t) des
   d-shared = s .pre .1 .1
 
   d-two : 2 ≤ d-f
-  d-two = terminal-two d-table (d-ready .good) d-f d-g (d-ready .f-inside) (d-ready .g-inside) d-op (d-ready .allowed) (s .pre .1 .2)
+  d-two = terminal-two d-table (d-asked .good) d-f d-g (d-asked .f-inside) (d-asked .g-inside) d-op (d-asked .allowed) (s .pre .1 .2)
+    where
+      d-asked : Operands d-op d-table d-f d-g
+      d-asked = d-ready .operands
 
   d-measure : 3 * (65 - top (d-table .vars) d-f d-g) + 1 ≡ t
   d-measure = s .pre .0
@@ -126,8 +129,8 @@ module _ {t : ℕ} (d : descend-lts.After-a (descend-callees t) (descend-at t) d
   abbrev ds₁ : descend-lts.Start (descend-callees t) (descend-at t) descend.Post
   ds₁ = start-from-a d
 
-  d-one : OneLeft (d-op ds₁) (d-memo ds₁) (d-table ds₁) (d-f ds₁) (d-g ds₁) (d .a .given .0 .0 .0) (d .a .given .0 .1 .0 .0)
-  d-one = step-one (d-op ds₁) (d-memo ds₁) (d-table ds₁) (d-f ds₁) (d-g ds₁) (d-ready ds₁) (d-two ds₁) (d .a .given .0 .0)
+  d-one : OneLeft (d-op ds₁) (d-table ds₁) (d-f ds₁) (d-g ds₁) (d .a .given .0 .0 .0) (d .a .given .0 .1 .0 .0)
+  d-one = step-one (d-op ds₁) (d-table ds₁) (d-f ds₁) (d-g ds₁) (d-ready ds₁ .operands) (d-two ds₁) (d .a .given .0 .0)
       (d .a .given .0 .1 .0) (d-step (descent-of-from-a d) ∙ d .a .given .1)
 
   d-one-shared : Shared (d-op ds₁) (ds₁ .args .by .positive) (d-table ds₁) (d .a .given .0 .0 .0) (d .a .given .0 .1 .0 .0)
@@ -138,8 +141,8 @@ module _ {t : ℕ} (d : descend-lts.After-s (descend-callees t) (descend-at t) d
   abbrev ds₂ : descend-lts.Start (descend-callees t) (descend-at t) descend.Post
   ds₂ = start-from-s d
 
-  d-both : BothLeft (d-op ds₂) (d-memo ds₂) (d-table ds₂) (d-f ds₂) (d-g ds₂) (d .s .given .0 .0)
-  d-both = step-both (d-op ds₂) (d-memo ds₂) (d-table ds₂) (d-f ds₂) (d-g ds₂) (d-ready ds₂) (d-two ds₂) (d .s .given .0 .0)
+  d-both : BothLeft (d-op ds₂) (d-table ds₂) (d-f ds₂) (d-g ds₂) (d .s .given .0 .0)
+  d-both = step-both (d-op ds₂) (d-table ds₂) (d-f ds₂) (d-g ds₂) (d-ready ds₂ .operands) (d-two ds₂) (d .s .given .0 .0)
       (d-step (descent-of-from-s d) ∙ d .s .given .1)
 
   d-side-shared : (a b : ℕ) → SideOf (d-table ds₂) (d-f ds₂) (d-g ds₂) a b → Shared (d-op ds₂) (ds₂ .args .by .positive) (d-table ds₂) a b
@@ -147,7 +150,7 @@ module _ {t : ℕ} (d : descend-lts.After-s (descend-callees t) (descend-at t) d
 
 sides-of-requires : (t : ℕ) → descend-lts.Need-sides-of-requires (descend-callees t) (descend-at t) descend.Post
 sides-of-requires t c κs =
-    let s = start-from-sides-of-call c in columns-hold (d-op s) (d-memo s) (d-table s) (d-f s) (d-g s) (d-ready s)
+    let s = start-from-sides-of-call c in columns-hold (d-op s) (d-table s) (d-f s) (d-g s) (d-ready s .operands)
 
 operation-of-requires : (t : ℕ) → descend-lts.Need-operation-of-requires (descend-callees t) (descend-at t) descend.Post
 operation-of-requires t c κs =
@@ -157,7 +160,7 @@ descent-of-requires : (t : ℕ) → descend-lts.Need-descent-of-requires (descen
 descent-of-requires t c κs =
     let s = start-from-descent-of-call c in
     let y = sides-of-from-descent-of-call c .sides-of in
-    sides-ask (d-op s) (d-memo s) (d-table s) (d-f s) (d-g s) (d-ready s) (d-two s) (y .result) (y .ensures)
+    sides-ask (d-op s) (d-table s) (d-f s) (d-g s) (d-ready s .operands) (d-two s) (y .result) (y .ensures)
 
 enum-known-a : (t : ℕ) → descend-lts.Need-enum-known-a (descend-callees t) (descend-at t) descend.Post
 enum-known-a t c =
@@ -165,8 +168,10 @@ enum-known-a t c =
 
 work-out-requires : (t : ℕ) → descend-lts.Need-work-out-requires (descend-callees t) (descend-at t) descend.Post
 work-out-requires t c κs =
-    let d = a-from-work-out-call c in
-    (omega (arith, d-measure (start-from-work-out-call c), d-one d .after, d-one d .most), (d-one d .ready, d-one-shared d))
+    let d = a-from-work-out-call c in (
+      omega (arith, d-measure (start-from-work-out-call c), d-one d .after, d-one d .most),
+      (record { operands = d-one d .operands; right = d-ready (start-from-work-out-call c) .right }, d-one-shared d),
+    )
 
 enum-known-s : (t : ℕ) → descend-lts.Need-enum-known-s (descend-callees t) (descend-at t) descend.Post
 enum-known-s t c =
@@ -176,7 +181,11 @@ join-requires : (t : ℕ) → descend-lts.Need-join-requires (descend-callees t)
 join-requires t c κs =
     let d = s-from-join-call c in (
       omega (arith, d-measure (start-from-join-call c), d-both d .variable),
-      (d-both d .ready, d-side-shared d _ _ (d-both d .low-of), d-side-shared d _ _ (d-both d .high-of)),
+      (
+        record { operands = d-both d .operands; right = d-ready (start-from-join-call c) .right },
+        d-side-shared d _ _ (d-both d .low-of),
+        d-side-shared d _ _ (d-both d .high-of),
+      ),
     )
 
 same-length : (t : ℕ) → descend-lts.Need-same-length (descend-callees t) (descend-at t) descend.Post

@@ -34,6 +34,9 @@ module _ {t : ℕ} (s : join-lts.Start (join-callees t) (join-at t) join.Post) w
   j-ready : SidesReady j-op j-memo j-table j-sides
   j-ready = s .pre .1 .0
 
+  j-low-ready : Ready j-op j-memo j-table (j-sides .f0 .0) (j-sides .g0 .0)
+  j-low-ready = record { operands = j-ready .operands .low; right = j-ready .right }
+
   j-low-shared : Shared j-op (s .args .by .positive) j-table (j-sides .f0 .0) (j-sides .g0 .0)
   j-low-shared = s .pre .1 .1
 
@@ -162,7 +165,7 @@ module _ {t : ℕ} (m : join-lts.At-match-came (join-callees t) (join-at t) join
   kept₁ =
       ⊎-elim
       (λ w. side-same (outcome-same (w .3) (w .4) (w .5) (w .6) (w .7) (w .9)) (w .8)
-      (home-kept (j-ready js .low) _ (subst (Tells (j-memo js) (j-sides js .f0 .0) (j-sides js .g0 .0)) (w .1 .given .1)
+      (home-kept (j-low-ready js) _ (subst (Tells (j-memo js) (j-sides js .f0 .0) (j-sides js .g0 .0)) (w .1 .given .1)
       (memo-home-from-at-match-came m .memo-home .ensures))))
       (λ w. side-same (outcome-same (w .21) (w .22) (w .23) (w .24) (w .25) (w .27)) (w .26)
       (record {
@@ -184,14 +187,14 @@ module _ {t : ℕ} (m : join-lts.At-match-came (join-callees t) (join-at t) join
   left₁ = kept₁ .left
 
   ready₁ : Ready (j-op js) (m .match .memo) (out₁ .table) (j-sides js .f1 .0) (j-sides js .g1 .0)
-  ready₁ = high-ready (j-op js) (j-memo js) (j-table js) (j-sides js) (j-ready js) out₁ (left₁ .is) (m .match .memo) (kept₁ .right)
+  ready₁ = high-ready (j-op js) (j-table js) (j-sides js) (j-ready js .operands) out₁ (left₁ .is) (m .match .memo) (kept₁ .right)
 
   shared₁ : Shared (j-op js) (js .args .by .positive) (out₁ .table) (j-sides js .f1 .0) (j-sides js .g1 .0)
-  shared₁ = high-shared (j-op js) (j-memo js) (j-table js) (j-sides js) (j-ready js) out₁ (left₁ .is) (js .args .by .positive)
+  shared₁ = high-shared (j-op js) (j-table js) (j-sides js) (j-ready js .operands) out₁ (left₁ .is) (js .args .by .positive)
       (j-high-shared js)
 
   after₁ : j-sides js .x < top (out₁ .table .vars) (j-sides js .f1 .0) (j-sides js .g1 .0)
-  after₁ = high-top (j-op js) (j-memo js) (j-table js) (j-sides js) (j-ready js) out₁ (left₁ .is)
+  after₁ = high-top (j-op js) (j-table js) (j-sides js) (j-ready js .operands) out₁ (left₁ .is)
 
 -- what the high side leaves
 module _ {t : ℕ} (n : join-lts.At-match2-came (join-callees t) (join-at t) join.Post) where
@@ -229,7 +232,7 @@ module _ {t : ℕ} (n : join-lts.At-match2-came (join-callees t) (join-at t) joi
 
 memo-home-requires : (t : ℕ) → join-lts.Need-memo-home-requires (join-callees t) (join-at t) join.Post
 memo-home-requires t c κs =
-    j-ready (start-from-memo-home-call c) .low .right .shaped
+    j-ready (start-from-memo-home-call c) .right .shaped
 
 enum-known-r : (t : ℕ) → join-lts.Need-enum-known-r (join-callees t) (join-at t) join.Post
 enum-known-r t c =
@@ -242,8 +245,8 @@ enum-told t c =
 work-out-requires : (t : ℕ) → join-lts.Need-work-out-requires (join-callees t) (join-at t) join.Post
 work-out-requires t c κs =
     let s = start-from-work-out-call c in (
-      omega (arith, j-measure s, j-ready s .low-after, j-ready s .most),
-      (j-ready s .low, j-low-shared s),
+      omega (arith, j-measure s, j-ready s .operands .low-after, j-ready s .operands .most),
+      (j-low-ready s, j-low-shared s),
     )
 
 same-length : (t : ℕ) → join-lts.Need-same-length (join-callees t) (join-at t) join.Post
@@ -274,7 +277,7 @@ returns : (t : ℕ) → join-lts.Need-returns (join-callees t) (join-at t) join.
 returns t c =
     let s = start-from-then1 c in
     let m = at-match-came-from-then1 c in
-    (low-done (j-op s) (j-memo s) (j-table s) (j-sides s) (j-ready s) (out₁ m) (left₁ m .is) (c .if1 .taken), kept₁ m .right)
+    (low-done (j-op s) (j-table s) (j-sides s) (j-ready s .operands) (out₁ m) (left₁ m .is) (c .if1 .taken), kept₁ m .right)
 
 memo-home-requires-2 : (t : ℕ) → join-lts.Need-memo-home-requires-2 (join-callees t) (join-at t) join.Post
 memo-home-requires-2 t c κs =
@@ -292,7 +295,7 @@ work-out-requires-2 : (t : ℕ) → join-lts.Need-work-out-requires-2 (join-call
 work-out-requires-2 t c κs =
     let s = start-from-work-out-call-2 c in
     let m = at-match-came-from-work-out-call-2 c in
-    (omega (arith, j-measure s, after₁ m, j-ready s .most), (ready₁ m, shared₁ m))
+    (omega (arith, j-measure s, after₁ m, j-ready s .operands .most), (ready₁ m, shared₁ m))
 
 same-length-7 : (t : ℕ) → join-lts.Need-same-length-7 (join-callees t) (join-at t) join.Post
 same-length-7 t c =
@@ -323,7 +326,7 @@ returns-2 t c =
     let s = start-from-then2 c in
     let m = at-match-came-from-then2 c in
     let n = at-match2-came-from-then2 c in (
-      high-done (j-op s) (j-memo s) (j-table s) (j-sides s) (j-ready s) (out₁ m) (left₁ m .is) (else1-from-then2 c .if1 .left) (out₂ n)
+      high-done (j-op s) (j-table s) (j-sides s) (j-ready s .operands) (out₁ m) (left₁ m .is) (else1-from-then2 c .if1 .left) (out₂ n)
           (left₂ n .is) (c .if2 .taken),
       kept₂ n .right,
     )
@@ -333,7 +336,7 @@ put-requires t c κs =
     let s = start-from-put-call c in
     let m = at-match-came-from-put-call c in
     let n = at-match2-came-from-put-call c in
-    high-good (j-op s) (j-memo s) (j-table s) (j-sides s) (j-ready s) (out₁ m) (left₁ m .is) (else1-from-put-call c .if1 .left) (out₂ n)
+    high-good (j-op s) (j-table s) (j-sides s) (j-ready s .operands) (out₁ m) (left₁ m .is) (else1-from-put-call c .if1 .left) (out₂ n)
     (left₂ n .is)
 
 same-length-13 : (t : ℕ) → join-lts.Need-same-length-13 (join-callees t) (join-at t) join.Post
@@ -372,9 +375,9 @@ returns-3 t c =
     let n = at-match2-came-from-return-3 c in
     let y = put-from-return-3 c .put in
     let placed = outcomeOf (y .last .0) (y .last .1 .0) (y .last .1 .1 .0) (y .last .1 .1 .1 .0) (y .last .1 .1 .1 .1 .0) (y .result) in (
-      both-done (j-op s) (j-memo s) (j-table s) (j-sides s) (j-ready s) (out₁ m) (left₁ m .is) (else1-from-return-3 c .if1 .left) (out₂ n)
+      both-done (j-op s) (j-table s) (j-sides s) (j-ready s .operands) (out₁ m) (left₁ m .is) (else1-from-return-3 c .if1 .left) (out₂ n)
           (left₂ n .is) (else2-from-return-3 c .if2 .left) placed (y .ensures),
-      memo-joined (j-op s) (j-memo s) (j-table s) (j-sides s) (j-ready s) (out₁ m) (left₁ m .is) (else1-from-return-3 c .if1 .left) (out₂ n)
+      memo-joined (j-op s) (j-table s) (j-sides s) (j-ready s .operands) (out₁ m) (left₁ m .is) (else1-from-return-3 c .if1 .left) (out₂ n)
           (left₂ n .is) (else2-from-return-3 c .if2 .left) placed (y .ensures) (n .match2 .memo) (kept₂ n .right),
     )
 

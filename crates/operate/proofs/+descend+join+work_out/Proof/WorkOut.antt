@@ -44,17 +44,20 @@ module _ {t : ℕ} (s : work-out-lts.Start (work-out-callees t) (work-out-at t) 
   a-shared = s .pre .1 .1
 
   a-terminal : (k : ℕ) → terminalOf a-op a-f a-g ≡ At (record { 0 = k }) → Right a-op a-table a-f a-g k
-  a-terminal = terminal-right a-table (a-ready .good) a-f a-g (a-ready .f-inside) (a-ready .g-inside) a-op (a-ready .allowed)
+  a-terminal = terminal-right a-table (a-ready .operands .good) a-f a-g (a-ready .operands .f-inside) (a-ready .operands .g-inside) a-op
+      (a-ready .operands .allowed)
 
   a-two : terminalOf a-op a-f a-g ≡ Nothing → 2 ≤ a-f
-  a-two = terminal-two a-table (a-ready .good) a-f a-g (a-ready .f-inside) (a-ready .g-inside) a-op (a-ready .allowed)
+  a-two = terminal-two a-table (a-ready .operands .good) a-f a-g (a-ready .operands .f-inside) (a-ready .operands .g-inside) a-op
+      (a-ready .operands .allowed)
 
   a-variable : 2 ≤ a-f → (1 ≤ getD (a-table .vars) a-f 0) × (getD (a-table .vars) a-f 0 ≤ 64)
-  a-variable = variable-fits a-table (a-ready .good) a-f a-g (a-ready .f-inside) (a-ready .g-inside)
+  a-variable = variable-fits a-table (a-ready .operands .good) a-f a-g (a-ready .operands .f-inside) (a-ready .operands .g-inside)
 
   a-beyond : 2 ≤ a-f → beyond (s .args .kind) (s .args .by) (getD (a-table .vars) a-f 0) ≡ true → Right a-op a-table a-f a-g a-f
-  a-beyond two = beyond-right a-table (a-ready .good) a-f a-g (a-ready .f-inside) (a-ready .g-inside) two (s .args .kind) (s .args .by)
-      (a-ready .allowed) a-shared
+  a-beyond two = beyond-right a-table (a-ready .operands .good) a-f a-g (a-ready .operands .f-inside) (a-ready .operands .g-inside) two
+      (s .args .kind) (s .args .by)
+      (a-ready .operands .allowed) a-shared
 
 -- The ways back, written by ways.py: TO-from-FROM leads from the place FROM of the code to the place TO before it.
 module _ {t : ℕ} (c : work-out-lts.After-operation-of (work-out-callees t) (work-out-at t) work-out.Post) where
@@ -206,7 +209,7 @@ enum-told t c =
 top-of-requires : (t : ℕ) → work-out-lts.Need-top-of-requires (work-out-callees t) (work-out-at t) work-out.Post
 top-of-requires t c κs =
     let s = start-from-top-of-call c in
-    let h = columns-hold (a-op s) (a-memo s) (a-table s) (a-f s) (a-g s) (a-ready s) in (h .0, h .1)
+    let h = columns-hold (a-op s) (a-table s) (a-f s) (a-g s) (a-ready s .operands) in (h .0, h .1)
 
 memo-find-requires : (t : ℕ) → work-out-lts.Need-memo-find-requires (work-out-callees t) (work-out-at t) work-out.Post
 memo-find-requires t c κs =
@@ -223,7 +226,7 @@ enum-told-2 t c =
 is-beyond-requires : (t : ℕ) → work-out-lts.Need-is-beyond-requires (work-out-callees t) (work-out-at t) work-out.Post
 is-beyond-requires t c κs =
     let s = start-from-is-beyond-call c in
-    let h = columns-hold (a-op s) (a-memo s) (a-table s) (a-f s) (a-g s) (a-ready s) in
+    let h = columns-hold (a-op s) (a-table s) (a-f s) (a-g s) (a-ready s .operands) in
     let v = a-variable s (a-two s (nothing (enum-told-from-is-beyond-call c))) in (h .0, v .0, v .1)
 
 same-length : (t : ℕ) → work-out-lts.Need-same-length (work-out-callees t) (work-out-at t) work-out.Post
@@ -238,7 +241,7 @@ returns : (t : ℕ) → work-out-lts.Need-returns (work-out-callees t) (work-out
 returns t c =
     let s = start-from-then1 c in
     let beyond = sym (is-beyond-from-then1 c .is-beyond .ensures) ∙ c .if1 .taken in (
-      known-outcome (a-op s) (a-memo s) (a-table s) (a-f s) (a-g s) (a-ready s) (a-f s)
+      known-outcome (a-op s) (a-table s) (a-f s) (a-g s) (a-ready s .operands) (a-f s)
           (a-beyond s (a-two s (nothing (enum-told-from-then1 c))) beyond),
       a-ready s .right,
     )
@@ -284,7 +287,7 @@ memo-put-requires t c κs =
 returns-3 : (t : ℕ) → work-out-lts.Need-returns-3 (work-out-callees t) (work-out-at t) work-out.Post
 returns-3 t c =
     let s = start-from-return-3 c in (
-      known-outcome (a-op s) (a-memo s) (a-table s) (a-f s) (a-g s) (a-ready s) _
+      known-outcome (a-op s) (a-table s) (a-f s) (a-g s) (a-ready s .operands) _
           (a-terminal s _ (told (terminal-from-return-3 c) ∙ c .before .r .given .1)),
       a-ready s .right,
     )
@@ -301,7 +304,7 @@ returns-4 : (t : ℕ) → work-out-lts.Need-returns-4 (work-out-callees t) (work
 returns-4 t c =
     let s = start-from-return-4 c in
     let found = subst (Tells (a-memo s) (a-f s) (a-g s)) (c .before .r2 .given .1) (memo-find-from-return-4 c .memo-find .ensures) in
-    (known-outcome (a-op s) (a-memo s) (a-table s) (a-f s) (a-g s) (a-ready s) _ (a-ready s .right .entries _ _ _ found), a-ready s .right)
+    (known-outcome (a-op s) (a-table s) (a-f s) (a-g s) (a-ready s .operands) _ (a-ready s .right .entries _ _ _ found), a-ready s .right)
 
 same-length-11 : (t : ℕ) → work-out-lts.Need-same-length-11 (work-out-callees t) (work-out-at t) work-out.Post
 same-length-11 t c =
@@ -333,7 +336,7 @@ returns-5 t c =
     let s = start-from-return-5 c in (
       a-is a,
       stores-right (a-op s) (a-memo₁ a) (a-out a .table) (a .descend .ensures .1) _ _ _ _ (c .before .before .memo-put .ensures)
-          (made-right (a-op s) (a-memo s) (a-table s) (a-f s) (a-g s) (a-ready s) (a-out a) (a-is a) (else2-from-return-5 c .if2 .left)),
+          (made-right (a-op s) (a-table s) (a-f s) (a-g s) (a-ready s .operands) (a-out a) (a-is a) (else2-from-return-5 c .if2 .left)),
     )
 
 pub work-out-met : {M : Type 1} (t : ℕ) → work-out-lts.Closed (work-out-callees t) (work-out-at t) work-out.Post M

@@ -234,12 +234,14 @@ returns-4 c =
 made-requires : tie.Need-made-requires
 made-requires c κs =
     record {
-      good = lent-good _ _ _ _ _ _ (start-from-made-call c .pre .0)
-          (sym (order-fits-from-made-call c .order-fits .ensures) ∙ not-false _ (else1-from-made-call c .if1 .left));
-      f-inside = else2-from-made-call c .if2 .left;
-      g-inside = else3-from-made-call c .if3 .left;
-      allowed = allowed-by _ _ (start-from-made-call c .pre .3)
-          (sym (operand-refusal-from-made-call c .operand-refusal .ensures) ∙ else4-from-made-call c .if4 .left);
+      operands = record {
+        good = lent-good _ _ _ _ _ _ (start-from-made-call c .pre .0)
+            (sym (order-fits-from-made-call c .order-fits .ensures) ∙ not-false _ (else1-from-made-call c .if1 .left));
+        f-inside = else2-from-made-call c .if2 .left;
+        g-inside = else3-from-made-call c .if3 .left;
+        allowed = allowed-by _ _ (start-from-made-call c .pre .3)
+            (sym (operand-refusal-from-made-call c .operand-refusal .ensures) ∙ else4-from-made-call c .if4 .left);
+      };
       right = memo-fresh _ (start-from-made-call c .pre .2) (start-from-made-call c .pre .1) _ _;
     }
 

@@ -73,8 +73,8 @@ apply-requires c κs =
 
 drop-to-requires : tie.Need-drop-to-requires
 drop-to-requires c κs =
-    let W = applied-grown _ _ _ _ _ (start-from-drop-to-call c .pre) (o-of (apply-from-drop-to-call c))
-    (apply-from-drop-to-call c .apply .ensures .0) in (W .good, start-from-drop-to-call c .pre .good .least, W .more)
+    let W = applied-grown _ _ _ _ (start-from-drop-to-call c .pre .operands) (o-of (apply-from-drop-to-call c))
+    (apply-from-drop-to-call c .apply .ensures .0) in (W .good, start-from-drop-to-call c .pre .operands .good .least, W .more)
 
 same-length : tie.Need-same-length
 same-length c =
@@ -104,10 +104,10 @@ returns : tie.Need-returns
 returns c =
     let s = start-from-return c in
     let a = apply-from-return c in
-    let L = applied-longer _ _ _ _ _ (s .pre) (o-of a) (a .apply .ensures .0) in
+    let L = applied-longer _ _ _ _ (s .pre .operands) (o-of a) (a .apply .ensures .0) in
     dropped-is (t-of s) (o-of a .table) (tableOf (drop-to-from-return c .drop-to .last .0) (drop-to-from-return c .drop-to .last .1 .0)
     (drop-to-from-return c .drop-to .last .1 .1 .0) (drop-to-from-return c .drop-to .last .1 .1 .1 .0)
-    (drop-to-from-return c .drop-to .last .1 .1 .1 .1 .0) (s .args .count)) (s .pre .good) L (drop-to-from-return c .drop-to .ensures)
+    (drop-to-from-return c .drop-to .last .1 .1 .1 .1 .0) (s .args .count)) (s .pre .operands .good) L (drop-to-from-return c .drop-to .ensures)
     ∙ full-is (listsOf (t-of s)) (s .args .count) (o-of a) _ (a .apply .ensures .0) (then1-from-return c .if1 .taken)
 
 same-length-7 : tie.Need-same-length-7
@@ -139,7 +139,7 @@ returns-2 c =
     let s = start-from-return-2 c in
     let a = apply-from-return-2 c in
     done-is (listsOf (t-of s)) (s .args .count) (o-of a) _ (a .apply .ensures .0)
-    (applied-longer _ _ _ _ _ (s .pre) (o-of a) (a .apply .ensures .0)) (c .before .if1 .left)
+    (applied-longer _ _ _ _ (s .pre .operands) (o-of a) (a .apply .ensures .0)) (c .before .if1 .left)
 
 pub made-spec : {M : Type 1} → statement M
 made-spec = tie.close (tie.spec apply-requires drop-to-requires same-length same-length-2 same-length-3 same-length-4 same-length-5
