@@ -1,6 +1,6 @@
 -- Zeros found by or-ing. The idea: an or is 0 exactly where both are, so the or of the places so far is 0 exactly where all of them are.
 -- Assumes nothing.
-use mathlib.Core.Path.{_≡_, refl, sym, ap, _∙_, subst}
+use mathlib.Core.Path.{_≡_, refl, sym, ap, _∙_}
 use mathlib.Core.Bool.{Bool, true, false}
 use mathlib.Core.List.{List}
 use Prim.Native.Nat.{ℕ, _+_, _-_, _≤_, _<_}
@@ -15,7 +15,7 @@ use Rattle.table.specs.Columns.{rows}
 use Rattle.table.proofs.Order.{all-blank, every-blank}
 use Rattle.table.proofs.Chain.{rows-at}
 use Rattle.good_order.specs.Tested.{Decides, Empty}
-use Rattle.good_order.proofs.Testing.{says-no, one-more}
+use Rattle.good_order.proofs.Testing.{one-more}
 
 or-left : (a b : ℕ) → bitOr a b ≡ 0 → a ≡ 0
 or-left a b e = omega (arith, e, or-add-and a b, and-le-r a b)
@@ -52,30 +52,6 @@ module _ (column : List ℕ) (from to : ℕ) where
     yes = λ e k a b. G .zeros (eqb-true all 0 e) k a (omega arith);
     no = λ e E. eqb-false all 0 e (G .zero (λ k a b. E k a (omega (arith, G .most))));
   }
-
-  -- by a block's places, counted from its first
-  pub gathered-first : from ≤ to → Gathered column from to (from + 0) 0
-  gathered-first h = subst (λ (i : ℕ). Gathered column from to i 0) here (gathered-none h)
-    where
-      here : from ≡ from + 0
-      here = omega arith
-
-  pub gathered-after : (k all : ℕ) → Gathered column from to (from + k) all → from + k < to
-      → Gathered column from to (from + (k + 1)) (bitOr all (getD column (from + k) 0))
-  gathered-after k all G more =
-      subst (λ (i : ℕ). Gathered column from to i (bitOr all (getD column (from + k) 0))) (grouped k) (gathered-next (from + k) all G more)
-    where
-      grouped : (k : ℕ) → (from + k) + 1 ≡ from + (k + 1)
-      grouped k = omega arith
-
-  pub block-none : (n : ℕ) → (to - from ≡ n → ⊥) → Decides false ((to - from ≡ n) × Empty column from to)
-  block-none n h = says-no (λ both. h (both .0))
-
-  pub block-all : (n k all : ℕ) → to - from ≡ n → n ≤ k → Gathered column from to (from + k) all
-      → Decides (eqb all 0) ((to - from ≡ n) × Empty column from to)
-  block-all n k all e end G =
-      let D = gathered-all (from + k) all G (omega (arith, e)) in
-      record { yes = λ z. (e, D .yes z); no = λ z both. D .no z (both .1) }
 
 -- ---- rows of zeros
 

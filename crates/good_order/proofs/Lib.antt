@@ -2,3 +2,4 @@ pub mod Paths
 pub mod Right
 pub mod Testing
 pub mod Gathered
+pub mod Counting

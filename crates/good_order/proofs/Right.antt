@@ -33,6 +33,10 @@ last-same f g b (suc j) same =
       | no q ↦ last-before f b j q ∙ before ∙ sym (last-before g b j (λ z. q (e ∙ z)))
     ]
 
+-- a node's link is a lower place
+pub link-less : (T : Table) → NodesFit T (T .count) → (k : ℕ) → 2 ≤ k → k < T .count → getD (T .links) k 0 < k
+link-less T N k two lt = elim (ℕ-discrete (getD (T .links) k 0) 0) [ yes z ↦ omega (arith, z) | no z ↦ N k two lt .1 z .1 ]
+
 -- ---- the facts
 
 pub record Right (T : Table) : Type 0 where
@@ -69,7 +73,7 @@ module _ (T : Table) (E : LentSizes T) where
       ap (λ (x : Node). bucket (2 * s) (x .var) (x .low) (x .high)) (node-at k lt)
       ∙ ap (λ (n : ℕ). bucketAt n places k) (sym heads-many)
 
-  chain-less : (k : ℕ) → chainAt T k < length (T .heads)
+  pub chain-less : (k : ℕ) → chainAt T k < length (T .heads)
   chain-less k = bucket-less (length (T .heads)) (at places k .var) (at places k .low) (at places k .high)
       (omega (arith, E .heads, E .within, E .least))
 
@@ -191,7 +195,7 @@ module _ (T : Table) (E : LentSizes T) where
         (omega (arith, e, L .from), omega (arith, e, L .below), ap (chainAt T) e ∙ L .is),
   )
 
-  pub heads-pass : Right T → HeadsFit T (length (T .heads))
+  pub heads-pass : Right T → HeadsFit T
   heads-pass R b lt ne =
       let e = R .heads b lt in
       let L : Last (chainAt T) b (T .count - 2) (lastIn (chainAt T) b (T .count - 2)) =
@@ -215,14 +219,11 @@ module _ (T : Table) (E : LentSizes T) where
 
   module _ (zeros : allBlank (take 2 (placesOf T)) ≡ true) (rest : allBlank (drop (T .count) (placesOf T)) ≡ true)
       (first : Empty (T .links) 0 2) (past : Empty (T .links) (T .count) (size T))
-      (N : NodesFit T (T .count)) (H : HeadsFit T (length (T .heads))) (A : AllInChain T (T .count)) where
-    falls : (k : ℕ) → 2 ≤ k → k < T .count → getD (T .links) k 0 < k
-    falls k two lt = elim (ℕ-discrete (getD (T .links) k 0) 0) [ yes z ↦ omega arith | no z ↦ N k two lt .1 z .1 ]
-
+      (N : NodesFit T (T .count)) (H : HeadsFit T) (A : AllInChain T (T .count)) where
     W : Tested (T .count) (length (T .heads)) (chainAt T) (λ b. getD (T .heads) b 0) (λ k. getD (T .links) k 0)
         (λ j k. at places j ≡ at places k)
     W = record {
-      falls = falls;
+      falls = link-less T N;
       linked = λ k two lt ne. (N k two lt .1 ne .0, N k two lt .1 ne .2);
       headed = H;
       reached = A;

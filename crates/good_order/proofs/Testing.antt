@@ -2,10 +2,11 @@
 -- Assumes nothing.
 use mathlib.Core.Path.{_≡_, refl, sym, ap, _∙_, subst}
 use mathlib.Core.Bool.{Bool, true, false}
+use mathlib.Core.Logic.{_≢_}
 use mathlib.Core.List.{List}
 use Prim.Native.Nat.{ℕ, _+_, _-_, _≤_, _<_}
 use native.Mathlib.Omega.{arith}
-use native.Mathlib.Decide.{ℕ-discrete, decLt}
+use native.Mathlib.Decide.{ℕ-discrete}
 use lib.ListN.{length, getD, take, drop, length-drop}
 use lib.Seq.{take-all}
 use lib.Dec.{eqb}
@@ -20,9 +21,10 @@ use Rattle.table.proofs.Chain.{rows-at}
 use Rattle.table.proofs.Sizes.{Sized, sized}
 use Rattle.table.specs.Index.{bucket, goodOrder}
 use Rattle.good_order.specs.Tested.{Decides, LentSizes, placesOf, chainAt, OfChain, NodeFits, here, next, Comes, InChain, Empty}
-use Rattle.good_order.specs.Tested.{NodesFit, BlockFits, HeadsFit, AllInChain, Walkable}
+use Rattle.good_order.specs.Tested.{NodesFit, HeadsFit, AllInChain, ComesBy}
+use Rattle.good_order.specs.declared.Way.the-variants.{Head, Behind, Lost}
 use Rattle.good_order.proofs.Paths.{reach-least}
-use Rattle.good_order.proofs.Right.{right-claim, refused, all-pass, passed}
+use Rattle.good_order.proofs.Right.{link-less, right-claim, refused, heads-pass, all-pass, passed}
 
 pub says-no : {P : Type 0} → (P → ⊥) → Decides false P
 says-no n = record { yes = λ e. t≢f (sym e); no = λ _. n }
@@ -34,16 +36,10 @@ says-yes p = record { yes = λ _. p; no = λ e. t≢f e }
 pub one-more : (Q : ℕ → Type 0) (from k : ℕ) → ((j : ℕ) → from ≤ j → j < k → Q j) → Q k → (j : ℕ) → from ≤ j → j < k + 1 → Q j
 one-more Q from k before q j a b = elim (ℕ-discrete j k) [ yes e ↦ subst Q (sym e) q | no e ↦ before j a (omega (arith, e)) ]
 
--- one block more
-pub block-more : (T : Table) (m n : ℕ) → HeadsFit T m → BlockFits T m n → HeadsFit T n
-block-more T m n before block b lt = elim (decLt b m) [ yes p ↦ before b p | no p ↦ block b (omega (arith, p)) lt ]
-
-pub zeros-fit : (T : Table) (from to : ℕ) → Empty (T .heads) from to → BlockFits T from to
-zeros-fit T from to zeros b a lt some = absurd (some (zeros b a lt))
-
 -- the walk to place k has come to place j
 pub record Walking (T : Table) (k j : ℕ) : Type 0 where
   pub below : j < T .count
+  pub behind : getD (T .heads) (chainAt T k) 0 ≢ k
   pub on : Comes T k j → InChain T k
   pub back : InChain T k → Comes T k j
 
@@ -76,20 +72,30 @@ module _ (T : Table) (E : LentSizes T) where
 
   -- ---- the walk down a chain
 
-  module _ (W : Walkable T) (k : ℕ) where
-    pub walk-start : (b : ℕ) → b < length (T .heads) → b ≡ bucket (length (T .heads)) (getD (T .vars) k 0) (getD (T .lows) k 0)
-        (getD (T .highs) k 0)
-        → Walking T k (getD (T .heads) b 0)
-    walk-start b lt e =
-        let q : b ≡ chainAt T k = chain-read k b e in
-        record {
-          below = elim (ℕ-discrete (getD (T .heads) b 0) 0) [ yes z ↦ omega (arith, z, E .least) | no z ↦ W .heads b lt z .1 ];
-          on = subst (λ (c : ℕ). Comes T k (getD (T .heads) c 0)) q;
-          back = subst (λ (c : ℕ). Comes T k (getD (T .heads) c 0)) (sym q);
-        }
+  module _ (N : NodesFit T (T .count)) (k : ℕ) where
+    head-read : (b : ℕ) → b ≡ bucket (length (T .heads)) (getD (T .vars) k 0) (getD (T .lows) k 0) (getD (T .highs) k 0)
+        → getD (T .heads) (chainAt T k) 0 ≡ getD (T .heads) b 0
+    head-read b e = ap (λ (c : ℕ). getD (T .heads) c 0) (sym (chain-read k b e))
 
-    pub link-less : (j : ℕ) → 2 ≤ j → j < T .count → getD (T .links) j 0 < j
-    link-less j two lt = elim (ℕ-discrete (getD (T .links) j 0) 0) [ yes z ↦ omega (arith, z) | no z ↦ W .nodes j two lt .1 z .1 ]
+    pub walk-past : (b : ℕ) → b < length (T .heads) → b ≡ bucket (length (T .heads)) (getD (T .vars) k 0) (getD (T .lows) k 0)
+        (getD (T .highs) k 0)
+        → T .count ≤ getD (T .heads) b 0 → ComesBy T k Lost
+    walk-past b lt e past _ H =
+        let o = H b lt (λ z. absurd (omega (arith, z, past, E .least))) in
+        absurd (omega (arith, past, o .1))
+
+    pub walk-head : (b : ℕ) → b ≡ bucket (length (T .heads)) (getD (T .vars) k 0) (getD (T .lows) k 0) (getD (T .highs) k 0)
+        → getD (T .heads) b 0 ≡ k → ComesBy T k Head
+    walk-head b e z = let q = head-read b e ∙ z in (subst (Comes T k) (sym q) here, q)
+
+    pub walk-start : (b : ℕ) → b ≡ bucket (length (T .heads)) (getD (T .vars) k 0) (getD (T .lows) k 0) (getD (T .highs) k 0)
+        → getD (T .heads) b 0 < T .count → (getD (T .heads) b 0 ≡ k → ⊥) → Walking T k (getD (T .heads) b 0)
+    walk-start b e lt ne = record {
+      below = lt;
+      behind = λ z. ne (sym (head-read b e) ∙ z);
+      on = subst (Comes T k) (sym (head-read b e));
+      back = subst (Comes T k) (head-read b e);
+    }
 
     onward : (j : ℕ) → k < j → Comes T k j → (at (placesOf T) j ≡ at (placesOf T) k → ⊥) × Comes T k (getD (T .links) j 0)
     onward _ lt here = absurd (omega arith)
@@ -103,19 +109,20 @@ module _ (T : Table) (E : LentSizes T) where
 
     pub walk-next : (j : ℕ) → 2 ≤ k → k < j → Walking T k j → alike (read j) (read k) ≡ false → Walking T k (getD (T .links) j 0)
     walk-next j two lt S miss = record {
-      below = omega (arith, link-less j (omega arith) (S .below), S .below);
+      below = omega (arith, link-less T N j (omega arith) (S .below), S .below);
+      behind = S .behind;
       on = λ r. S .on (next {j = j} lt (λ e. alike-false (read j) (read k) miss (read-same j e)) r);
       back = λ r. onward j lt (S .back r) .1;
     }
 
-    pub walk-hit : (j : ℕ) → k < j → Walking T k j → alike (read j) (read k) ≡ true → InChain T k → ⊥
-    walk-hit j lt S hit r = onward j lt (S .back r) .0 (same-read j (alike-true (read j) (read k) hit))
+    pub walk-hit : (j : ℕ) → k < j → Walking T k j → alike (read j) (read k) ≡ true → ComesBy T k Lost
+    walk-hit j lt S hit r _ = onward j lt (S .back r) .0 (same-read j (alike-true (read j) (read k) hit))
 
-    pub walk-end : (j : ℕ) → j ≤ k → Walking T k j → Decides (eqb j k) (InChain T k)
-    walk-end j le S = record {
-      yes = λ e. S .on (subst (Comes T k) (sym (eqb-true j k e)) here);
-      no = λ e r. eqb-false j k e (let p : k ≤ j = reach-least _ _ k j (S .back r) in omega arith);
-    }
+    pub walk-found : (j : ℕ) → Walking T k j → j ≡ k → ComesBy T k Behind
+    walk-found j S e = (S .on (subst (Comes T k) (sym e) here), S .behind)
+
+    pub walk-end : (j : ℕ) → j < k → Walking T k j → ComesBy T k Lost
+    walk-end j lt S r _ = absurd (let p : k ≤ j = reach-least _ _ k j (S .back r) in omega arith)
 
 -- ---- the whole
 
@@ -131,11 +138,11 @@ no-order places count ds ks e = rw e
 
 pub decided : (T : Table) (E : LentSizes T) → allBlank (take 2 (placesOf T)) ≡ true →
     allBlank (take (size T - T .count) (drop (T .count) (placesOf T))) ≡ true
-    → Empty (T .links) 0 2 → Empty (T .links) (T .count) (length (T .links)) → NodesFit T (T .count) → HeadsFit T (length (T .heads))
-    → (r : Bool) → Decides r (AllInChain T (T .count)) → r ≡ goodOrder (placesOf T) (T .count) (T .heads) (T .links)
-decided T E zeros rest first past N H true D =
+    → Empty (T .links) 0 2 → Empty (T .links) (T .count) (length (T .links)) → NodesFit T (T .count)
+    → (r : Bool) → Decides r (AllInChain T (T .count) × HeadsFit T) → r ≡ goodOrder (placesOf T) (T .count) (T .heads) (T .links)
+decided T E zeros rest first past N true D =
     sym (right-claim T E (passed T E zeros
     (ap allBlank (sym (take-all (size T - T .count) (drop (T .count) (placesOf T))
     (omega (arith, length-drop (T .count) (placesOf T), length-rows (T .vars) (T .lows) (T .highs) (E .lows) (E .highs))))) ∙ rest)
-    first (λ k a b. past k a (omega (arith, E .links))) N H (D .yes refl)))
-decided T E zeros rest first past N H false D = sym (refused T E (λ R. D .no refl (all-pass T E R)))
+    first (λ k a b. past k a (omega (arith, E .links))) N (D .yes refl .1) (D .yes refl .0)))
+decided T E zeros rest first past N false D = sym (refused T E (λ R. D .no refl (all-pass T E R, heads-pass T E R)))

@@ -1,13 +1,17 @@
 -- What the read-only test of a lent table asks, place by place. No call open to others cites this file.
 use mathlib.Core.Path.{_≡_}
-use mathlib.Core.Bool.{Bool, true, false}
+use mathlib.Core.Logic.{_≢_}
+use mathlib.Core.Bool.{Bool, true, false, cond}
 use mathlib.Core.List.{List}
-use Prim.Native.Nat.{ℕ, _*_, _≤_, _<_}
+use Prim.Native.Nat.{ℕ, zero, suc, _*_, _≤_, _<_}
 use lib.ListN.{length, getD}
+use lib.Dec.{eqb}
 use Rattle.table.specs.Nodes.{Node, at, fits}
 use Rattle.table.specs.Columns.{rows}
 use Rattle.table.specs.Index.{bucketAt}
 use Rattle.table.specs.Indexed.{Table, size}
+use Rattle.good_order.specs.declared.Way.{Way}
+use Rattle.good_order.specs.declared.Way.the-variants.{Head, Behind, Lost}
 
 -- r says whether P holds.
 pub record Decides (r : Bool) (P : Type 0) : Type 0 where
@@ -58,16 +62,26 @@ Empty xs from to = (k : ℕ) → from ≤ k → k < to → getD xs k 0 ≡ 0
 abbrev pub NodesFit : Table → ℕ → Type 0
 NodesFit T m = (k : ℕ) → 2 ≤ k → k < m → NodeFits T k
 
-abbrev pub BlockFits : Table → ℕ → ℕ → Type 0
-BlockFits T from to = (b : ℕ) → from ≤ b → b < to → OfChain T (T .count) b (getD (T .heads) b 0)
-
-abbrev pub HeadsFit : Table → ℕ → Type 0
-HeadsFit T m = (b : ℕ) → b < m → OfChain T (T .count) b (getD (T .heads) b 0)
+-- Each head is 0 or a node of its chain.
+abbrev pub HeadsFit : Table → Type 0
+HeadsFit T = (b : ℕ) → b < length (T .heads) → OfChain T (T .count) b (getD (T .heads) b 0)
 
 abbrev pub AllInChain : Table → ℕ → Type 0
 AllInChain T m = (k : ℕ) → 2 ≤ k → k < m → InChain T k
 
--- What a chain's links and heads must be for a walk to stay among the nodes.
-pub record Walkable (T : Table) : Type 0 where
-  pub nodes : NodesFit T (T .count)
-  pub heads : HeadsFit T (length (T .heads))
+-- Where the walk down the chain of place k comes to it: one that begins past the count comes nowhere if the heads are as they must be.
+abbrev pub ComesBy : Table → ℕ → Way → Type 0
+ComesBy T k Head = InChain T k × (getD (T .heads) (chainAt T k) 0 ≡ k)
+ComesBy T k Behind = InChain T k × (getD (T .heads) (chainAt T k) 0 ≢ k)
+ComesBy T k Lost = InChain T k → HeadsFit T → ⊥
+
+-- ---- counted
+
+-- How many numbers below n pass the test p.
+unfoldable pub many : (ℕ → Bool) → ℕ → ℕ
+many p zero = 0
+many p (suc n) = cond (p n) (suc (many p n)) (many p n)
+
+-- How many of the first n numbers are 0.
+abbrev pub zerosIn : List ℕ → ℕ → ℕ
+zerosIn xs n = many (λ k. eqb (getD xs k 0) 0) n

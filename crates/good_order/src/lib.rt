@@ -7,13 +7,10 @@ ghost use Rattle.table.specs.Nodes.{at, allBlank, fits};
 ghost use Rattle.table.specs.Index.{goodOrder};
 ghost use Rattle.table.specs.Columns.{rows, sizeFits};
 ghost use Rattle.table.specs.Indexed.{tableOf};
-ghost use Rattle.good_order.specs.Tested.{Decides, LentSizes, OfChain, NodeFits, InChain};
-ghost use Rattle.good_order.specs.Tested.{NodesFit, BlockFits, HeadsFit, AllInChain, Walkable};
+ghost use Rattle.good_order.specs.Tested.{Decides, LentSizes, OfChain, NodeFits, ComesBy};
+ghost use Rattle.good_order.specs.Tested.{NodesFit, HeadsFit, AllInChain};
 
 pub mod zeros;
-
-// How many heads are tested at once.
-const BLOCK: usize = 16;
 
 // Whether the places from `from` up to `to` hold zeros.
 fn blank_between(vars: &[u8], lows: &[u16], highs: &[u16], from: usize, to: usize) -> bool
@@ -140,74 +137,14 @@ fn nodes_fit(
     true
 }
 
-// Whether the heads from `from` up to `to` are each 0 or a node of their chain.
-fn block_fits(
-    vars: &[u8],
-    lows: &[u16],
-    highs: &[u16],
-    heads: &[u16],
-    links: &[u16],
-    count: usize,
-    from: usize,
-    to: usize,
-) -> bool
-    requires { ⌜ LentSizes (tableOf (now vars) (now lows) (now highs) (now heads) (now links) count)
-        × (from ≤ to)
-        × (to ≤ length (now heads)) ⌝ }
-    ensures { λ r. ⌜ (
-        let lent = tableOf (now (vars .entry)) (now (lows .entry)) (now (highs .entry)) (now (heads .entry)) (now (links .entry)) count in
-        Decides r (BlockFits lent from to)) ⌝ }
-{
-    if zeros::zero_block(heads, from, to) {
-        return true;
-    }
-    let mut b: usize = from;
-    while b < to {
-        if !of_chain(vars, lows, highs, heads, links, count, count, b, heads[b]) {
-            return false;
-        }
-        b += 1;
-    }
-    true
+// Where the walk down a node's chain comes to it: at the chain's head, behind it, or not.
+enum Way {
+    Head,
+    Behind,
+    Lost,
 }
 
-// Where the block that begins at b ends, of n heads.
-fn block_end(b: usize, n: usize) -> usize
-    requires { ⌜ b < n ⌝ }
-    ensures { λ r. ⌜ (b < r) × (r ≤ n) ⌝ }
-{
-    if n - b < BLOCK {
-        return n;
-    }
-    b + BLOCK
-}
-
-// Whether each head is 0 or a node of its chain: by blocks, and those of zeros are passed.
-fn heads_fit(
-    vars: &[u8],
-    lows: &[u16],
-    highs: &[u16],
-    heads: &[u16],
-    links: &[u16],
-    count: usize,
-) -> bool
-    requires { ⌜ LentSizes (tableOf (now vars) (now lows) (now highs) (now heads) (now links) count) ⌝ }
-    ensures { λ r. ⌜ (
-        let lent = tableOf (now (vars .entry)) (now (lows .entry)) (now (highs .entry)) (now (heads .entry)) (now (links .entry)) count in
-        Decides r (HeadsFit lent (length (now (heads .entry))))) ⌝ }
-{
-    let mut b: usize = 0;
-    while b < heads.len() {
-        let end = block_end(b, heads.len());
-        if !block_fits(vars, lows, highs, heads, links, count, b, end) {
-            return false;
-        }
-        b = end;
-    }
-    true
-}
-
-// Whether the walk down the chain of place k comes to it and meets no node like it before.
+// Where the walk down the chain of place k comes to it: lost also where it meets a node like it before, or begins past the count.
 fn reached(
     vars: &[u8],
     lows: &[u16],
@@ -216,29 +153,39 @@ fn reached(
     links: &[u16],
     count: usize,
     k: usize,
-) -> bool
+) -> Way
     requires { ⌜ LentSizes (tableOf (now vars) (now lows) (now highs) (now heads) (now links) count) × (2 ≤ k) × (k < count) ⌝ }
-    requires { ⌜ Walkable (tableOf (now vars) (now lows) (now highs) (now heads) (now links) count) ⌝ }
+    requires { ⌜ NodesFit (tableOf (now vars) (now lows) (now highs) (now heads) (now links) count) count ⌝ }
     ensures { λ r. ⌜ (
         let lent = tableOf (now (vars .entry)) (now (lows .entry)) (now (highs .entry)) (now (heads .entry)) (now (links .entry)) count in
-        Decides r (InChain lent k)) ⌝ }
+        ComesBy lent k r) ⌝ }
 {
     let v = vars[k];
     let l = lows[k];
     let h = highs[k];
     let b = table::bucket_of(heads.len(), v, l, h);
     let mut j = heads[b] as usize;
+    if count <= j {
+        return Way::Lost;
+    }
+    if j == k {
+        return Way::Head;
+    }
     while k < j {
         if vars[j] == v && lows[j] == l && highs[j] == h {
-            return false;
+            return Way::Lost;
         }
         j = links[j] as usize;
     }
-    j == k
+    if j < k {
+        return Way::Lost;
+    }
+    Way::Behind
 }
 
-// Whether each node is on its chain, and none is met on the way that is like it: every two of a chain are compared once.
-fn all_in_chain(
+// Whether each node is on its chain, and none is met on the way that is like it: every two of a chain are compared once. And whether each
+// head is 0 or a node of its chain, by counting: no node heads two chains, so the zeros and the nodes that are heads are then all heads.
+fn index_fits(
     vars: &[u8],
     lows: &[u16],
     highs: &[u16],
@@ -247,19 +194,26 @@ fn all_in_chain(
     count: usize,
 ) -> bool
     requires { ⌜ LentSizes (tableOf (now vars) (now lows) (now highs) (now heads) (now links) count) ⌝ }
-    requires { ⌜ Walkable (tableOf (now vars) (now lows) (now highs) (now heads) (now links) count) ⌝ }
+    requires { ⌜ NodesFit (tableOf (now vars) (now lows) (now highs) (now heads) (now links) count) count ⌝ }
     ensures { λ r. ⌜ (
         let lent = tableOf (now (vars .entry)) (now (lows .entry)) (now (highs .entry)) (now (heads .entry)) (now (links .entry)) count in
-        Decides r (AllInChain lent count)) ⌝ }
+        Decides r (AllInChain lent count × HeadsFit lent)) ⌝ }
 {
+    let mut first: usize = 0;
     let mut k: usize = 2;
     while k < count {
-        if !reached(vars, lows, highs, heads, links, count, k) {
-            return false;
+        match reached(vars, lows, highs, heads, links, count, k) {
+            Way::Head => {
+                first += 1;
+            }
+            Way::Behind => {}
+            Way::Lost => {
+                return false;
+            }
         }
         k += 1;
     }
-    true
+    first + zeros::zeros_of(heads) == heads.len()
 }
 
 // Whether columns and index of proper size are in good order with this count.
@@ -297,8 +251,5 @@ pub fn order_fits(
     if !nodes_fit(vars, lows, highs, heads, links, count) {
         return false;
     }
-    if !heads_fit(vars, lows, highs, heads, links, count) {
-        return false;
-    }
-    all_in_chain(vars, lows, highs, heads, links, count)
+    index_fits(vars, lows, highs, heads, links, count)
 }

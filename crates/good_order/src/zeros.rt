@@ -1,11 +1,11 @@
-// Whether places hold zeros: all of them or-ed together and tested once, which a compiler does many at a time.
+// Whether places hold zeros: all of them or-ed together and tested once; and how many zeros there are. A compiler does both many at a time.
 ghost use mathlib.Core.Path.{_≡_};
-ghost use Prim.Native.Nat.{_-_, _≤_};
+ghost use Prim.Native.Nat.{_+_, _-_, _≤_, _<_};
 ghost use lib.ListN.{length};
-ghost use Rattle.good_order.specs.Tested.{Decides, Empty};
+ghost use Rattle.good_order.specs.Tested.{Decides, Empty, zerosIn};
 
-// How many numbers a block has; with a constant number of them they are or-ed without a loop.
-const BLOCK: usize = 16;
+// How many numbers are counted in 16 bits, so that a compiler counts eight at a time.
+const BLOCK: usize = 4096;
 
 // Whether the bytes from `from` up to `to` are 0.
 pub fn bytes_empty(bytes: &[u8], from: usize, to: usize) -> bool
@@ -35,19 +35,43 @@ pub fn places_empty(column: &[u16], from: usize, to: usize) -> bool
     all == 0
 }
 
-// Whether the numbers from `from` up to `to` are a block of zeros.
-pub fn zero_block(column: &[u16], from: usize, to: usize) -> bool
-    requires { ⌜ (from ≤ to) × (to ≤ length (now column)) ⌝ }
-    ensures { λ r. ⌜ Decides r ((to - from ≡ 16) × Empty (now (column .entry)) from to) ⌝ }
+// Where the block that begins at b ends, of n numbers.
+fn block_end(b: usize, n: usize) -> usize
+    requires { ⌜ b < n ⌝ }
+    ensures { λ r. ⌜ (b < r) × (r ≤ n) × (r - b ≤ 4096) ⌝ }
 {
-    if to - from != BLOCK {
-        return false;
+    if n - b < BLOCK {
+        return n;
     }
-    let mut all: u16 = 0;
-    let mut k: usize = 0;
-    while k < BLOCK {
-        all = all | column[from + k];
-        k += 1;
+    b + BLOCK
+}
+
+// How many of the numbers from `from` up to `to` are 0; a block has at most 4,096.
+fn zeros_between(column: &[u16], from: usize, to: usize) -> u16
+    requires { ⌜ (from ≤ to) × (to ≤ length (now column)) × (to - from ≤ 4096) ⌝ }
+    ensures { λ r. ⌜ zerosIn (now (column .entry)) from + r ≡ zerosIn (now (column .entry)) to ⌝ }
+{
+    let mut zeros: u16 = 0;
+    let mut i = from;
+    while i < to {
+        if column[i] == 0 {
+            zeros += 1;
+        }
+        i += 1;
     }
-    all == 0
+    zeros
+}
+
+// How many numbers are 0: by blocks, each of them counted many at a time.
+pub fn zeros_of(column: &[u16]) -> usize
+    ensures { λ r. ⌜ r ≡ zerosIn (now (column .entry)) (length (now (column .entry))) ⌝ }
+{
+    let mut zeros: usize = 0;
+    let mut b: usize = 0;
+    while b < column.len() {
+        let end = block_end(b, column.len());
+        zeros += zeros_between(column, b, end) as usize;
+        b = end;
+    }
+    zeros
 }

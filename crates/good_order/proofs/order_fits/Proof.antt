@@ -5,7 +5,7 @@ use borrow.Author.Tests.{not-true, not-false}
 use borrow.Author.Needs.{needs}
 use Rattle.table.proofs.Sizes.{sized}
 use Rattle.table.proofs.Places.{too-few, too-many, bad-start, bad-rest}
-use Rattle.good_order.proofs.Right.{refused, nodes-pass, heads-pass}
+use Rattle.good_order.proofs.Right.{refused, nodes-pass}
 use Rattle.good_order.proofs.Testing.{lent, no-order, decided}
 use Rattle.good_order.proofs.order_fits.Statement.{statement}
 use Rattle.good_order.proofs.order_fits.Tie as tie
@@ -104,13 +104,9 @@ module _ (c : tie.Then6) where
   abbrev start-from-then6 : tie.Start
   start-from-then6 = start-from-else1 else1-from-then6
 
-module _ (c : tie.After-nodes-fit) where
-  abbrev else2-from-nodes-fit : tie.Else2
-  else2-from-nodes-fit = else2-from-else6 (c .before)
-
 module _ (c : tie.Else7) where
   abbrev else2-from-else7 : tie.Else2
-  else2-from-else7 = else2-from-nodes-fit (c .before)
+  else2-from-else7 = else2-from-else6 (c .before .before)
 
   abbrev else1-from-else7 : tie.Else1
   else1-from-else7 = else1-from-else2 else2-from-else7
@@ -120,7 +116,7 @@ module _ (c : tie.Else7) where
 
 module _ (c : tie.Then7) where
   abbrev else2-from-then7 : tie.Else2
-  else2-from-then7 = else2-from-nodes-fit (c .before)
+  else2-from-then7 = else2-from-else6 (c .before .before)
 
   abbrev else1-from-then7 : tie.Else1
   else1-from-then7 = else1-from-else2 else2-from-then7
@@ -128,68 +124,39 @@ module _ (c : tie.Then7) where
   abbrev start-from-then7 : tie.Start
   start-from-then7 = start-from-else1 else1-from-then7
 
-module _ (c : tie.Else8) where
-  abbrev nodes-fit-from-else8 : tie.After-nodes-fit
-  nodes-fit-from-else8 = c .before .before .before
+module _ (c : tie.After-index-fits) where
+  abbrev else6-from-return-8 : tie.Else6
+  else6-from-return-8 = c .before .before .before
 
-  abbrev else2-from-else8 : tie.Else2
-  else2-from-else8 = else2-from-nodes-fit nodes-fit-from-else8
+  abbrev places-empty2-from-return-8 : tie.After-places-empty2
+  places-empty2-from-return-8 = else6-from-return-8 .before
 
-  abbrev else1-from-else8 : tie.Else1
-  else1-from-else8 = else1-from-else2 else2-from-else8
+  abbrev else5-from-return-8 : tie.Else5
+  else5-from-return-8 = places-empty2-from-return-8 .before
 
-  abbrev start-from-else8 : tie.Start
-  start-from-else8 = start-from-else1 else1-from-else8
+  abbrev places-empty-from-return-8 : tie.After-places-empty
+  places-empty-from-return-8 = else5-from-return-8 .before
 
-module _ (c : tie.Then8) where
-  abbrev else2-from-then8 : tie.Else2
-  else2-from-then8 = else2-from-else7 (c .before .before)
+  abbrev else4-from-return-8 : tie.Else4
+  else4-from-return-8 = places-empty-from-return-8 .before
 
-  abbrev else1-from-then8 : tie.Else1
-  else1-from-then8 = else1-from-else2 else2-from-then8
+  abbrev blank-between2-from-return-8 : tie.After-blank-between2
+  blank-between2-from-return-8 = else4-from-return-8 .before
 
-  abbrev start-from-then8 : tie.Start
-  start-from-then8 = start-from-else1 else1-from-then8
+  abbrev else3-from-return-8 : tie.Else3
+  else3-from-return-8 = blank-between2-from-return-8 .before
 
-module _ (c : tie.After-all-in-chain) where
-  abbrev else7-from-return-9 : tie.Else7
-  else7-from-return-9 = c .before .before .before
+  abbrev blank-between-from-return-8 : tie.After-blank-between
+  blank-between-from-return-8 = else3-from-return-8 .before
 
-  abbrev nodes-fit-from-return-9 : tie.After-nodes-fit
-  nodes-fit-from-return-9 = else7-from-return-9 .before
+  abbrev else2-from-return-8 : tie.Else2
+  else2-from-return-8 = blank-between-from-return-8 .before
 
-  abbrev else6-from-return-9 : tie.Else6
-  else6-from-return-9 = nodes-fit-from-return-9 .before
+  abbrev else1-from-return-8 : tie.Else1
+  else1-from-return-8 = else1-from-else2 else2-from-return-8
 
-  abbrev places-empty2-from-return-9 : tie.After-places-empty2
-  places-empty2-from-return-9 = else6-from-return-9 .before
-
-  abbrev else5-from-return-9 : tie.Else5
-  else5-from-return-9 = places-empty2-from-return-9 .before
-
-  abbrev places-empty-from-return-9 : tie.After-places-empty
-  places-empty-from-return-9 = else5-from-return-9 .before
-
-  abbrev else4-from-return-9 : tie.Else4
-  else4-from-return-9 = places-empty-from-return-9 .before
-
-  abbrev blank-between2-from-return-9 : tie.After-blank-between2
-  blank-between2-from-return-9 = else4-from-return-9 .before
-
-  abbrev else3-from-return-9 : tie.Else3
-  else3-from-return-9 = blank-between2-from-return-9 .before
-
-  abbrev blank-between-from-return-9 : tie.After-blank-between
-  blank-between-from-return-9 = else3-from-return-9 .before
-
-  abbrev else2-from-return-9 : tie.Else2
-  else2-from-return-9 = blank-between-from-return-9 .before
-
-  abbrev else1-from-return-9 : tie.Else1
-  else1-from-return-9 = else1-from-else2 else2-from-return-9
-
-  abbrev start-from-return-9 : tie.Start
-  start-from-return-9 = start-from-else1 else1-from-return-9
+  abbrev start-from-return-8 : tie.Start
+  start-from-return-8 = start-from-else1 else1-from-return-8
 
 returns : tie.Need-returns
 returns c = sym (no-order _ _ _ _ (too-few _ _ _ (sized _ _ _ _ _ (start-from-then1 c .pre) .lows)
@@ -255,33 +222,20 @@ returns-7 c = sym (refused _ (lent _ _ _ _ _ _ (start-from-then7 c .pre) (else1-
     (λ R. c .before .nodes-fit .ensures .no (not-true _ (c .if7 .taken))
     (nodes-pass _ (lent _ _ _ _ _ _ (start-from-then7 c .pre) (else1-from-then7 c .if1 .left) (else2-from-then7 c .if2 .left)) R)))
 
-heads-fit-requires : tie.Need-heads-fit-requires
-heads-fit-requires c κs = (lent _ _ _ _ _ _ (start-from-else7 c .pre) (else1-from-else7 c .if1 .left) (else2-from-else7 c .if2 .left))
-
-returns-8 : tie.Need-returns-8
-returns-8 c = sym (refused _ (lent _ _ _ _ _ _ (start-from-then8 c .pre) (else1-from-then8 c .if1 .left) (else2-from-then8 c .if2 .left))
-    (λ R. c .before .heads-fit .ensures .no (not-true _ (c .if8 .taken))
-    (heads-pass _ (lent _ _ _ _ _ _ (start-from-then8 c .pre) (else1-from-then8 c .if1 .left) (else2-from-then8 c .if2 .left)) R)))
-
-all-in-chain-requires : tie.Need-all-in-chain-requires
-all-in-chain-requires c κs = (
-  (lent _ _ _ _ _ _ (start-from-else8 c .pre) (else1-from-else8 c .if1 .left) (else2-from-else8 c .if2 .left)),
-  record {
-    nodes = (nodes-fit-from-else8 c .nodes-fit .ensures .yes (not-false _ (c .before .before .if7 .left)));
-    heads =
-        (c .before .heads-fit .ensures .yes (not-false _ (c .if8 .left)));
-  },
+index-fits-requires : tie.Need-index-fits-requires
+index-fits-requires c κs = (
+  (lent _ _ _ _ _ _ (start-from-else7 c .pre) (else1-from-else7 c .if1 .left) (else2-from-else7 c .if2 .left)),
+  c .before .nodes-fit .ensures .yes (not-false _ (c .if7 .left)),
 )
 
-returns-9 : tie.Need-returns-9
-returns-9 c = decided _ (lent _ _ _ _ _ _ (start-from-return-9 c .pre) (else1-from-return-9 c .if1 .left)
-    (else2-from-return-9 c .if2 .left)) (sym (blank-between-from-return-9 c .blank-between .ensures)
-    ∙ not-false _ (else3-from-return-9 c .if3 .left))
-    (sym (blank-between2-from-return-9 c .blank-between2 .ensures) ∙ not-false _ (else4-from-return-9 c .if4 .left))
-    (places-empty-from-return-9 c .places-empty .ensures .yes (not-false _ (else5-from-return-9 c .if5 .left)))
-    (places-empty2-from-return-9 c .places-empty2 .ensures .yes (not-false _ (else6-from-return-9 c .if6 .left)))
-    (nodes-fit-from-return-9 c .nodes-fit .ensures .yes (not-false _ (else7-from-return-9 c .if7 .left)))
-    (c .before .before .heads-fit .ensures .yes (not-false _ (c .before .if8 .left))) _ (c .all-in-chain .ensures)
+returns-8 : tie.Need-returns-8
+returns-8 c = decided _ (lent _ _ _ _ _ _ (start-from-return-8 c .pre) (else1-from-return-8 c .if1 .left)
+    (else2-from-return-8 c .if2 .left)) (sym (blank-between-from-return-8 c .blank-between .ensures)
+    ∙ not-false _ (else3-from-return-8 c .if3 .left))
+    (sym (blank-between2-from-return-8 c .blank-between2 .ensures) ∙ not-false _ (else4-from-return-8 c .if4 .left))
+    (places-empty-from-return-8 c .places-empty .ensures .yes (not-false _ (else5-from-return-8 c .if5 .left)))
+    (places-empty2-from-return-8 c .places-empty2 .ensures .yes (not-false _ (else6-from-return-8 c .if6 .left)))
+    (c .before .before .nodes-fit .ensures .yes (not-false _ (c .before .if7 .left))) _ (c .index-fits .ensures)
 
 pub order-fits-spec : {M : Type 1} → statement M
 order-fits-spec =
@@ -299,7 +253,5 @@ order-fits-spec =
     returns-6
     nodes-fit-requires
     returns-7
-    heads-fit-requires
-    returns-8
-    all-in-chain-requires
-    returns-9)
+    index-fits-requires
+    returns-8)
