@@ -18,6 +18,15 @@ const CELLS_4096: usize = 8192;
 
 const CELLS_65536: usize = 131072;
 
+// The greatest counts with which they hold all results: of one operand each node's in half of the cells, of two operands each pair's of nodes.
+const ALONE_64: usize = 512;
+
+const PAIRED_64: usize = 46;
+
+const ALONE_4096: usize = 4096;
+
+const PAIRED_4096: usize = 130;
+
 // What a single call says: 01's number, the node (0 with a refusal) and the count.
 #[repr(C)]
 pub struct Single {
@@ -138,7 +147,26 @@ fn judged(
     made(vars, lows, highs, heads, links, memo, count, op, f, g)
 }
 
-// With a memo for up to 64 places.
+// Whether a memo for up to so many places is enough for a table of this size: also where it holds all results, since the count is at most
+// `alone` with one operand, at most `paired` with two.
+fn is_enough(
+    places: usize,
+    alone: usize,
+    paired: usize,
+    size: usize,
+    count: usize,
+    g: NodeNo,
+) -> bool {
+    if size <= places {
+        return true;
+    }
+    if g.0 < 2 {
+        return count <= alone;
+    }
+    count <= paired
+}
+
+// With the memo for up to 64 places.
 fn judged_64(
     vars: &mut [u8],
     lows: &mut [u16],
@@ -160,7 +188,7 @@ fn judged_64(
     judged(vars, lows, highs, heads, links, &mut memo, count, op, f, g)
 }
 
-// With a memo for up to 4,096 places.
+// With the memo for up to 4,096 places.
 fn judged_4096(
     vars: &mut [u8],
     lows: &mut [u16],
@@ -182,7 +210,7 @@ fn judged_4096(
     judged(vars, lows, highs, heads, links, &mut memo, count, op, f, g)
 }
 
-// With a memo for up to 65,536 places.
+// With the memo for up to 65,536 places.
 fn judged_65536(
     vars: &mut [u8],
     lows: &mut [u16],
@@ -229,10 +257,10 @@ pub fn call(
             count,
         };
     }
-    if vars.len() <= 64 {
+    if is_enough(64, ALONE_64, PAIRED_64, vars.len(), count, g) {
         return judged_64(vars, lows, highs, heads, links, count, op, f, g);
     }
-    if vars.len() <= 4096 {
+    if is_enough(4096, ALONE_4096, PAIRED_4096, vars.len(), count, g) {
         return judged_4096(vars, lows, highs, heads, links, count, op, f, g);
     }
     judged_65536(vars, lows, highs, heads, links, count, op, f, g)

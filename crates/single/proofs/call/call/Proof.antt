@@ -28,6 +28,9 @@ returns : tie.Need-returns
 returns c =
     called-7 _ _ _ _ _ (sym (c .before .size-fits .ensures) ∙ not-true _ (c .if1 .taken))
 
+is-enough-requires : tie.Need-is-enough-requires
+is-enough-requires c κs = search needs
+
 -- The ways back, written by ways.py: TO-from-FROM leads from the place FROM of the code to the place TO before it.
 module _ (c : tie.After-size-fits) where
   abbrev start-from-size-fits : tie.Start
@@ -39,7 +42,7 @@ module _ (c : tie.Else1) where
 
 module _ (c : tie.After-judged-64-arg5) where
   abbrev else1-from-judged-64-call : tie.Else1
-  else1-from-judged-64-call = c .before .before .before .before .before .before
+  else1-from-judged-64-call = c .before .before .before .before .before .before .before
 
   abbrev size-fits-from-judged-64-call : tie.After-size-fits
   size-fits-from-judged-64-call = size-fits-from-else1 else1-from-judged-64-call
@@ -49,7 +52,7 @@ module _ (c : tie.After-judged-64-arg5) where
 
 module _ (c : tie.After-judged-4096-arg5) where
   abbrev else1-from-judged-4096-call : tie.Else1
-  else1-from-judged-4096-call = c .before .before .before .before .before .before .before
+  else1-from-judged-4096-call = c .before .before .before .before .before .before .before .before .before
 
   abbrev size-fits-from-judged-4096-call : tie.After-size-fits
   size-fits-from-judged-4096-call = size-fits-from-else1 else1-from-judged-4096-call
@@ -59,7 +62,7 @@ module _ (c : tie.After-judged-4096-arg5) where
 
 module _ (c : tie.After-judged-65536-arg5) where
   abbrev else1-from-judged-65536-call : tie.Else1
-  else1-from-judged-65536-call = c .before .before .before .before .before .before .before
+  else1-from-judged-65536-call = c .before .before .before .before .before .before .before .before .before
 
   abbrev size-fits-from-judged-65536-call : tie.After-size-fits
   size-fits-from-judged-65536-call = size-fits-from-else1 else1-from-judged-65536-call
@@ -108,6 +111,9 @@ same-length-10 c =
 returns-2 : tie.Need-returns-2
 returns-2 c =
     judged-64-from-return-2 c .judged-64 .ensures
+
+is-enough-requires-2 : tie.Need-is-enough-requires-2
+is-enough-requires-2 c κs = search needs
 
 judged-4096-requires : tie.Need-judged-4096-requires
 judged-4096-requires c κs = (
@@ -171,6 +177,6 @@ returns-4 c =
 
 pub call-spec : {M : Type 1} → statement M
 call-spec = tie.close (tie.spec size-fits-requires same-length same-length-2 same-length-3 same-length-4 same-length-5 returns
-    judged-64-requires same-length-6 same-length-7 same-length-8 same-length-9 same-length-10 returns-2 judged-4096-requires same-length-11
-    same-length-12 same-length-13 same-length-14 same-length-15 returns-3 judged-65536-requires same-length-16 same-length-17 same-length-18
-    same-length-19 same-length-20 returns-4)
+    is-enough-requires judged-64-requires same-length-6 same-length-7 same-length-8 same-length-9 same-length-10 returns-2
+    is-enough-requires-2 judged-4096-requires same-length-11 same-length-12 same-length-13 same-length-14 same-length-15 returns-3
+    judged-65536-requires same-length-16 same-length-17 same-length-18 same-length-19 same-length-20 returns-4)
