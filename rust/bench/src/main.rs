@@ -9,6 +9,7 @@ mod books;
 mod buddy;
 mod drat;
 mod pairs;
+mod rounds;
 mod slow;
 mod stack;
 mod workloads;
