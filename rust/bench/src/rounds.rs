@@ -25,7 +25,7 @@ fn long_clauses(writer: &mut Writer, first: u8, lines: usize) {
 }
 
 /// Path lines "an odd number of the first variables", with 2^(parity - 1) paths each, over so many long clauses. Each path has a round
-/// for each of the other variables but one.
+/// for each of the other variables but two.
 pub fn paths_over_clauses(parity: u8, members: usize, lines: usize) -> Problem {
     let formula = Formula { variables: 64, clauses: downward(i32::from(parity) + 2) };
     let mut builder = Builder::new(&formula);
@@ -40,7 +40,7 @@ pub fn paths_over_clauses(parity: u8, members: usize, lines: usize) -> Problem {
 }
 
 /// PR lines "not variable 1" over so many clauses with variable 1, which have a turn each, and so many long clauses, which the
-/// witness satisfies. Each turn has 55 rounds.
+/// witness satisfies. Each turn has 54 rounds.
 pub fn turns_over_clauses(turns: usize, members: usize, lines: usize) -> Problem {
     let clauses = [(1..=turns).map(other_clause).collect(), downward(10)].concat();
     let formula = Formula { variables: 64, clauses };
