@@ -1,34 +1,11 @@
 //! Links the archives that `rt staticlib` writes of `export`, `explain`, `nodes` and `node_check`. No other crate links them.
 
-use std::env;
-use std::path::Path;
-
-const FOLDER: &str = "CABLESALAK_ARCHIVE_FOLDER";
+mod link;
 
 fn main() {
-    // The repository's, or where `bin/install` puts it beside this crate.
-    let own = env::var("CARGO_MANIFEST_DIR").unwrap();
-    let in_repository = Path::new(&own).join("../../crates.txt").exists();
-    let beside =
-        || format!("{own}/{}", if in_repository { "../../target/staticlib" } else { "../../../../lib/cablesalak" });
-    let folder = env::var(FOLDER).unwrap_or_else(|_| beside());
-    println!("cargo:rerun-if-env-changed={FOLDER}");
-    println!("cargo:rustc-link-search=native={folder}");
-    link(&folder, "export");
-    link(&folder, "explain");
-    if env::var_os("CARGO_FEATURE_NODES").is_some() {
-        link(&folder, "nodes");
-        link(&folder, "node_check");
+    let mut names = vec!["export", "explain"];
+    if std::env::var_os("CARGO_FEATURE_NODES").is_some() {
+        names.extend(["nodes", "node_check"]);
     }
-    // For the tests, which link C programs too.
-    println!("cargo:rustc-env=CABLESALAK_FOLDER={folder}");
-}
-
-fn link(folder: &str, name: &str) {
-    println!("cargo:rerun-if-changed={folder}/lib{name}.a");
-    println!("cargo:rustc-link-lib=static={name}");
-    assert!(
-        Path::new(folder).join(format!("lib{name}.a")).exists(),
-        "no lib{name}.a in {folder}: write it with `rt staticlib {name}`, or name its folder in {FOLDER}"
-    );
+    link::archives(&names);
 }

@@ -1,20 +1,8 @@
 //! Links the archive that `rt staticlib small_export` writes. No other crate links it.
 
-use std::env;
-use std::path::Path;
-
-const FOLDER: &str = "CABLESALAK_ARCHIVE_FOLDER";
-const ARCHIVE: &str = "libsmall_export.a";
+#[path = "../cablesalak/link.rs"]
+mod link;
 
 fn main() {
-    let beside = || format!("{}/../../target/staticlib", env::var("CARGO_MANIFEST_DIR").unwrap());
-    let folder = env::var(FOLDER).unwrap_or_else(|_| beside());
-    println!("cargo:rerun-if-env-changed={FOLDER}");
-    println!("cargo:rerun-if-changed={folder}/{ARCHIVE}");
-    println!("cargo:rustc-link-search=native={folder}");
-    println!("cargo:rustc-link-lib=static=small_export");
-    assert!(
-        Path::new(&folder).join(ARCHIVE).exists(),
-        "no {ARCHIVE} in {folder}: write it with `rt staticlib small_export`, or name its folder in {FOLDER}"
-    );
+    link::archives(&["small_export"]);
 }

@@ -1,12 +1,15 @@
-//! `bench [--driver COMMAND] [--reference COMMAND] [--only WORD]`, `bench --write FOLDER`
+//! `bench [--driver COMMAND] [--reference COMMAND] [--buddy PROGRAM] [--only WORD]`, `bench --write FOLDER`
 //!
 //! Times the proved library and the reference on the same commands in one run, the cost of text taken away, and says what
-//! stack a call takes. WORD is `single`, `check`, `drat`, `slow` or `stack`. With `--write` nothing is timed: formula,
-//! proof and places of each check in records are written to files of the folder, for tools/speed.py.
+//! stack a call takes. WORD is `single`, `check`, `drat`, `slow` or `stack`; single calls have a column of BuDDy where it is
+//! installed. With `--write` nothing is timed: formula, proof and places of each check in records are written to files of
+//! the folder, for tools/speed.py.
 
 mod books;
+mod buddy;
 mod drat;
 mod pairs;
+mod rounds;
 mod slow;
 mod stack;
 mod workloads;
@@ -20,6 +23,7 @@ use workloads::Workload;
 struct Options {
     driver: String,
     reference: String,
+    buddy: String,
     only: Option<String>,
     write: Option<String>,
 }
@@ -32,16 +36,16 @@ fn main() {
     }
     let wanted = |word: &str| options.only.as_deref().is_none_or(|only| only == word);
     if wanted("single") {
-        time_all(&options, &workloads::single());
+        time_all(&options, &workloads::single(), buddy::start(&options.buddy));
     }
     if wanted("check") {
-        time_all(&options, &workloads::check());
+        time_all(&options, &workloads::check(), None);
     }
     if wanted("drat") {
-        time_all(&options, &drat::all());
+        time_all(&options, &drat::all(), None);
     }
     if wanted("slow") {
-        time_all(&options, &slow::all());
+        time_all(&options, &slow::all(), None);
     }
     if wanted("stack") {
         stack::report(&options.driver, &[workloads::single(), workloads::check(), drat::all()].concat());
@@ -53,17 +57,20 @@ fn main() {
 
 fn options() -> Options {
     let beside = |name: &str| std::env::current_exe().unwrap().with_file_name(name).display().to_string();
-    let mut options = Options { driver: beside("driver"), reference: beside("reference"), only: None, write: None };
+    let [driver, reference, buddy] = ["driver", "reference", "buddy"].map(beside);
+    let mut options = Options { driver, reference, buddy, only: None, write: None };
     let mut given = std::env::args().skip(1);
     while let Some(word) = given.next() {
         match (word.as_str(), given.next()) {
             ("--driver", Some(command)) => options.driver = command,
             ("--reference", Some(command)) => options.reference = command,
+            ("--buddy", Some(program)) => options.buddy = program,
             ("--only", Some(word)) => options.only = Some(word),
             ("--write", Some(folder)) => options.write = Some(folder),
             _ => {
                 eprintln!(
-                    "usage: bench [--driver COMMAND] [--reference COMMAND] [--only single|check|drat|slow|stack] [--write FOLDER]"
+                    "usage: bench [--driver COMMAND] [--reference COMMAND] [--buddy PROGRAM] \
+                     [--only single|check|drat|slow|stack] [--write FOLDER]"
                 );
                 exit(2)
             }
@@ -72,8 +79,10 @@ fn options() -> Options {
     options
 }
 
-fn time_all(options: &Options, workloads: &[Workload]) {
-    println!("{:<56} {:>12} {:>12} {:>8}   answer", "microseconds a call", "library", "reference", "ratio");
+/// Times the workloads, where there is BuDDy's filter by that too.
+fn time_all(options: &Options, workloads: &[Workload], mut buddy: Option<Filter>) {
+    let more = if buddy.is_some() { column("BuDDy", "ratio") } else { String::new() };
+    println!("{:<56} {:>12} {:>12} {:>8}{more}   answer", "microseconds a call", "library", "reference", "ratio");
     let mut filters = [Filter::start(&options.driver), Filter::start(&options.reference)];
     for workload in workloads {
         let answers = filters.each_mut().map(|filter| answer(filter, &workload.command));
@@ -82,9 +91,20 @@ fn time_all(options: &Options, workloads: &[Workload]) {
             exit(1);
         }
         let [library, reference] = times(&mut filters, workload);
+        let more = buddy.as_mut().map_or(String::new(), |filter| {
+            match buddy::time(filter, &workload.name, &workload.command, &answers[0]) {
+                Some(time) => column(&format!("{time:.1}"), &format!("{:.2}", library / time)),
+                None => column("-", "-"),
+            }
+        });
         let said = answers[0].split(" |").next().unwrap_or("");
-        println!("{:<56} {library:>12.1} {reference:>12.1} {:>8.2}   {said}", workload.name, library / reference);
+        println!("{:<56} {library:>12.1} {reference:>12.1} {:>8.2}{more}   {said}", workload.name, library / reference);
     }
+}
+
+/// BuDDy's time, and the library's by it.
+fn column(time: &str, ratio: &str) -> String {
+    format!(" {time:>12} {ratio:>8}")
 }
 
 fn answer(filter: &mut Filter, command: &str) -> String {

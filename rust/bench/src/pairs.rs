@@ -4,7 +4,7 @@
 use compare::diagram::{Diagrams, Literals, Node};
 use compare::families::Problem;
 use compare::formula::Formula;
-use compare::proof::Builder;
+use compare::proof::{Builder, Writer};
 use compare::random::Random;
 
 fn problem(lines: &[Node], store: Diagrams, repeats: usize) -> Problem {
@@ -59,13 +59,18 @@ pub fn equal(lines: usize, repeats: usize) -> Problem {
         let root = builder.writer.node(variable, below, 1);
         builder.writer.line(0x52, root);
     }
-    for _ in 0..repeats {
-        let below = builder.writer.node(6, 0, 1);
-        let root = builder.writer.node(5, below, 1);
-        builder.writer.witness(Literals { positive: 0b1_0100, negative: 0 });
-        builder.writer.line(0x50, root);
-    }
+    untouched(&mut builder.writer, repeats);
     Problem { formula, builder }
+}
+
+/// PR lines "variable 5 or 6" whose witness makes 5 and 3 true: a member has a turn where it is not 1 by these.
+fn untouched(writer: &mut Writer, lines: usize) {
+    for _ in 0..lines {
+        let below = writer.node(6, 0, 1);
+        let root = writer.node(5, below, 1);
+        writer.witness(Literals { positive: 0b1_0100, negative: 0 });
+        writer.line(0x50, root);
+    }
 }
 
 /// The nodes of all remainders at the first of 31 variables, every second one from `first` on. The last weights are powers
@@ -100,6 +105,23 @@ pub fn wide_excluding(depth: usize, width: usize, levels: usize) -> Problem {
         wide_over(&mut store, random, ends, first, false, [depth, width, levels])
     });
     problem(&lines, store, 0)
+}
+
+/// Two such diagrams, "x3 or f" and "x1 or g", then so many PR lines, in each of which only the second has a turn. It makes f 0, so that
+/// nothing is placed, and meets all pairs again.
+pub fn wide_turns(depth: usize, width: usize, levels: usize, repeats: usize) -> Problem {
+    let formula = Formula { variables: 64, clauses: vec![vec![1], vec![3]] };
+    let (mut builder, random) = (Builder::new(&formula), &mut Random::new(9));
+    for (first, end, above) in [(8, 0, 3), (7, 1, 1)] {
+        let store = &mut builder.store;
+        let last = store.literal(64);
+        let ends = [store.node(63, end, last), store.node(63, last, end)];
+        let below = wide_over(store, random, ends, first, false, [depth, width, levels]);
+        let line = store.node(above, below, 1);
+        builder.write_line(0x52, line, Literals::default());
+    }
+    untouched(&mut builder.writer, repeats);
+    Problem { formula, builder }
 }
 
 fn wide_over(

@@ -1,6 +1,7 @@
 //! Inputs made to be slow: each aims at one thing that bounds the work.
 
 use crate::pairs;
+use crate::rounds;
 use crate::workloads::{self, Workload};
 use compare::diagram::{Diagrams, Literals, Node};
 use compare::families::{self, Problem};
@@ -33,6 +34,13 @@ pub fn all() -> Vec<Workload> {
         workloads::proof("200 equal members, 200 PR lines", &pairs::equal(200, 200), 4_096),
         workloads::proof("counters apart, by 130", &pairs::apart(130, 0), 65_536),
     ]);
+    for (places, [depth, width]) in [(4_096, [8, 240]), (65_536, [9, 300])] {
+        all.extend([
+            workloads::proof("paths with rounds over long clauses", &rounds::paths_over_clauses(7, 100, 1), places),
+            workloads::proof("turns with rounds over long clauses", &rounds::turns_over_clauses(100, 100, 1), places),
+            workloads::proof("PR lines over wide levels, excluding", &pairs::wide_turns(depth, width, 3, 1), places),
+        ]);
+    }
     all
 }
 

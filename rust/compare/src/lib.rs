@@ -15,6 +15,7 @@ pub mod formula;
 mod index;
 pub mod kept;
 mod large;
+pub mod options;
 pub mod outside;
 pub mod paths;
 pub mod proof;

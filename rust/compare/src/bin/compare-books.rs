@@ -11,6 +11,7 @@ use compare::books::{self, Pair, Session, Side};
 use compare::check::hex;
 use compare::filter::Filter;
 use compare::kept::{self, Said, State};
+use compare::options::Options;
 use compare::random::Random;
 use std::collections::BTreeMap;
 use std::process::exit;
@@ -19,12 +20,6 @@ use std::process::exit;
 const BATCH: usize = 50;
 /// How many altered calls there are for each call.
 const ALTERED: usize = 3;
-
-struct Options {
-    count: usize,
-    seed: u64,
-    filters: [String; 2],
-}
 
 #[derive(Default)]
 struct Tally {
@@ -36,7 +31,7 @@ struct Tally {
 }
 
 fn main() {
-    let options = options();
+    let options = Options::given(200, "compare-books [SESSIONS]");
     let mut random = Random::new(options.seed);
     let [mut left, mut right] = options.filters.each_ref().map(|command| Filter::start(command));
     let mut tally = Tally::default();
@@ -289,27 +284,4 @@ fn alone_turns(
         asked.push(books::call(which, bytes));
     }
     (asked, own)
-}
-
-fn options() -> Options {
-    let beside = |name: &str| std::env::current_exe().unwrap().with_file_name(name).display().to_string();
-    let mut options = Options { count: 200, seed: 1, filters: [beside("driver"), beside("reference")] };
-    let mut numbers = 0;
-    let mut given = std::env::args().skip(1);
-    while let Some(word) = given.next() {
-        match (word.as_str(), numbers) {
-            ("--left", _) => options.filters[0] = given.next().unwrap_or_else(|| usage()),
-            ("--right", _) => options.filters[1] = given.next().unwrap_or_else(|| usage()),
-            (number, 0) => options.count = number.parse().unwrap_or_else(|_| usage()),
-            (number, 1) => options.seed = number.parse().unwrap_or_else(|_| usage()),
-            _ => usage(),
-        }
-        numbers += usize::from(!word.starts_with("--"));
-    }
-    options
-}
-
-fn usage() -> ! {
-    eprintln!("usage: compare-books [SESSIONS] [SEED] [--left COMMAND] [--right COMMAND]");
-    exit(2)
 }

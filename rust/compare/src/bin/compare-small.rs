@@ -7,18 +7,13 @@
 
 use compare::check;
 use compare::filter::Filter;
+use compare::options::Options;
 use compare::random::Random;
 use std::collections::BTreeMap;
 use std::process::exit;
 
-struct Options {
-    count: usize,
-    seed: u64,
-    filters: [String; 2],
-}
-
 fn main() {
-    let options = options();
+    let options = Options::given(2000, "compare-small [COUNT]");
     let mut random = Random::new(options.seed);
     let mut filters = options.filters.each_ref().map(|command| Filter::start(command));
     let mut numbers = BTreeMap::new();
@@ -99,27 +94,4 @@ fn agree(drawn: &Drawn, [left, right, diagrams]: [&str; 3]) -> Result<(), &'stat
     } else {
         Err("the two methods differ")
     }
-}
-
-fn options() -> Options {
-    let beside = |name: &str| std::env::current_exe().unwrap().with_file_name(name).display().to_string();
-    let mut options = Options { count: 2000, seed: 1, filters: [beside("driver"), beside("reference")] };
-    let mut numbers = 0;
-    let mut given = std::env::args().skip(1);
-    while let Some(word) = given.next() {
-        match (word.as_str(), numbers) {
-            ("--left", _) => options.filters[0] = given.next().unwrap_or_else(|| usage()),
-            ("--right", _) => options.filters[1] = given.next().unwrap_or_else(|| usage()),
-            (number, 0) => options.count = number.parse().unwrap_or_else(|_| usage()),
-            (number, 1) => options.seed = number.parse().unwrap_or_else(|_| usage()),
-            _ => usage(),
-        }
-        numbers += usize::from(!word.starts_with("--"));
-    }
-    options
-}
-
-fn usage() -> ! {
-    eprintln!("usage: compare-small [COUNT] [SEED] [--left COMMAND] [--right COMMAND]");
-    exit(2)
 }
