@@ -47,6 +47,23 @@ abbrev pub Tells : List ℕ → ℕ → ℕ → Found → Type 0
 Tells memo f g (At r) = Holds memo f g (r .0)
 Tells memo f g Nothing = Unit {0}
 
+-- The places from `from` on that are before `to` are empty, and those before them as they were.
+pub record Cleared (memo : List ℕ) (from to : ℕ) (memo′ : List ℕ) : Type 0 where
+  pub length-kept : length memo′ ≡ length memo
+  pub empty : (k : ℕ) → from ≤ k → k < to → _≡_ {A = ℕ} (getD memo′ k 0) 0
+  pub others : (k : ℕ) → k < from → _≡_ {A = ℕ} (getD memo′ k 0) (getD memo k 0)
+
+-- One of the first n cells has e.
+pub record InCells (memo : List ℕ) (n e : ℕ) : Type 0 where
+  pub cell : ℕ
+  pub inside : cell < n
+  pub has : getD memo (3 + cell) 0 ≡ e
+
+-- Each of the first n cells is empty or has what one of them had before.
+pub record Moved (memo : List ℕ) (n : ℕ) (memo′ : List ℕ) : Type 0 where
+  pub length-kept : length memo′ ≡ length memo
+  pub cells : (i : ℕ) → i < n → (getD memo′ (3 + i) 0 ≡ 0) ⊎ InCells memo n (getD memo′ (3 + i) 0)
+
 -- A memo that holds nothing but what the one before it does.
 pub record Follows (memo memo′ : List ℕ) : Type 0 where
   pub shaped : Shaped memo′

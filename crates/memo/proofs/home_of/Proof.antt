@@ -2,7 +2,6 @@
 use Prim.Native.Nat.{ℕ, _*_, _/_, _≤_, _<_}
 use native.Mathlib.Omega.{arith}
 use native.Mathlib.Nat.{mul-le-mul, mul-le-mul-right, div-le-of-le-mul}
-use borrow.Author.Needs.{needs}
 use Rattle.memo.proofs.home_of.Statement.{statement}
 use Rattle.memo.proofs.home_of.Tie as tie
 
@@ -13,14 +12,11 @@ product-fits x m less few = let p : x * m ≤ 4294967295 * 1048576 = mul-le-mul 
 scaled : (x m : ℕ) → x < 4294967296 → x * m / 4294967296 ≤ m
 scaled x m less = div-le-of-le-mul 4294967296 (mul-le-mul-right m (omega arith))
 
-mixed-requires : tie.Need-mixed-requires
-mixed-requires c κs = search needs
-
 mul-result : tie.Need-mul-result
-mul-result c = let s = c .before in omega (arith, product-fits (c .mixed .result) (s .args .m) (c .mixed .ensures) (s .pre))
+mul-result c = omega (arith, product-fits (c .args .mix) (c .args .m) (c .pre .1) (c .pre .0))
 
 returns : tie.Need-returns
-returns c = scaled (c .mixed .result) _ (c .mixed .ensures)
+returns c = scaled (c .args .mix) _ (c .pre .1)
 
 pub home-of-spec : {M : Type 1} → statement M
-home-of-spec = tie.close (tie.spec mixed-requires mul-result returns)
+home-of-spec = tie.close (tie.spec mul-result returns)

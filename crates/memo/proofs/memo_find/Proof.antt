@@ -1,5 +1,7 @@
 -- What a live cell tells is held (Cells). Assumes nothing.
 use mathlib.Core.Path.{sym, subst}
+use native.Mathlib.Omega.{arith}
+use borrow.Author.Tests.{ltb-false}
 use Rattle.memo.specs.Memo.{Tells}
 use Rattle.memo.proofs.Cells.{cell-tells}
 use borrow.Author.Needs.{needs}
@@ -45,8 +47,11 @@ module _ (c : tie.After-cell-of) where
   start-from-cell-of = c .before .before .before .before .before .before .before
 
 module _ (c : tie.After-told-by) where
+  abbrev else4-from-return-3 : tie.Else4
+  else4-from-return-3 = c .before .before
+
   abbrev else3-from-return-3 : tie.Else3
-  else3-from-return-3 = c .before .before
+  else3-from-return-3 = else4-from-return-3 .before .before
 
   abbrev cell-of-from-return-3 : tie.After-cell-of
   cell-of-from-return-3 = else3-from-return-3 .before
@@ -60,8 +65,7 @@ returns-3 c =
     let a = s .args in
     let y = c .told-by .ensures in
     subst (Tells (a .memo .now) (a .f .0) (a .g .0)) (sym (y .0))
-    (cell-tells (a .memo .now) (cell-of-from-return-3 c .cell-of .result) (a .f .0) (a .g .0) (else3-from-return-3 c .if3 .left) (y .1)
-    (s .pre .1))
+    (cell-tells (a .memo .now) (cell-of-from-return-3 c .cell-of .result) (a .f .0) (a .g .0) (omega (arith, else3-from-return-3 c .if3 .left)) (y .1) (ltb-false _ _ (else4-from-return-3 c .if4 .left)))
 
 pub memo-find-spec : {M : Type 1} → statement M
 memo-find-spec =

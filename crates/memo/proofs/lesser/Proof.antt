@@ -1,0 +1,14 @@
+-- `lesser` is one of the two. Assumes nothing.
+use mathlib.Core.Logic.{inl, inr}
+use native.Mathlib.Omega.{arith}
+use Rattle.memo.proofs.lesser.Statement.{statement}
+use Rattle.memo.proofs.lesser.Tie as tie
+
+returns : tie.Need-returns
+returns c = (omega (arith, c .if1 .taken), omega arith, inr (omega arith))
+
+returns-2 : tie.Need-returns-2
+returns-2 c = (omega arith, omega (arith, c .if1 .left), inl (omega arith))
+
+pub lesser-spec : {M : Type 1} → statement M
+lesser-spec = tie.close (tie.spec returns returns-2)
