@@ -92,7 +92,7 @@ fn next_round(
 }
 
 // What comes first in a propagation: all members are asked.
-fn first_round(
+pub fn first_round(
     vars: &[u8],
     lows: &[u16],
     highs: &[u16],
@@ -187,7 +187,7 @@ fn round(
 }
 
 // The rounds of a propagation from the first on, which is due by the units of the member at the place.
-fn rounds_by(
+pub fn rounds_by(
     vars: &mut [u8],
     lows: &mut [u16],
     highs: &mut [u16],
