@@ -32,15 +32,16 @@ is-some (some f) = true
 pub unitless-all : (ms : List Diagram) → firstWithUnit 64 ms ≡ none → Unitless ms (length ms)
 unfolding firstWithUnit is-some
 unitless-all [] e k p = absurd (omega arith)
-unitless-all (f ∷ fs) e k p = at k p (parts (hasUnit 64 64 f) (firstWithUnit 64 fs) e)
+unitless-all (f ∷ fs) e k p = at (λ z. unitless-all fs z) k p (parts (hasUnit 64 64 f) (firstWithUnit 64 fs) e)
   where
     parts : (b : Bool) (rest : Option Diagram) → cond b (some f) rest ≡ none → (b ≡ false) × (rest ≡ none)
     parts true rest z = t≢f (ap is-some z)
     parts false rest z = (refl, z)
 
-    at : (k : ℕ) → k < length (f ∷ fs) → (hasUnit 64 64 f ≡ false) × (firstWithUnit 64 fs ≡ none) → hasUnit 64 64 (getD (f ∷ fs) k (leaf false)) ≡ false
-    at zero p q = q .0
-    at (suc k) p q = unitless-all fs (q .1) k (omega arith)
+    at : (firstWithUnit 64 fs ≡ none → Unitless fs (length fs)) → (k : ℕ) → k < length (f ∷ fs)
+        → (hasUnit 64 64 f ≡ false) × (firstWithUnit 64 fs ≡ none) → hasUnit 64 64 (getD (f ∷ fs) k (leaf false)) ≡ false
+    at later zero p q = q .0
+    at later (suc k) p q = later (q .1) k (omega arith)
 
 -- ---- the walk over two lists
 

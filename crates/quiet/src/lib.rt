@@ -167,10 +167,10 @@ pub fn unit_prop_known(
         ListReady before (now list) (now memo) × (now marks ≡ unmarked (length (now vars))) × (length (now list) ≤ 2048)) ⌝ }
     requires { ⌜ (
         let before = tableOf (now vars) (now lows) (now highs) (now heads) (now links) count in
-        (length (now words) ≡ length (now list)) × Supports (nodesOf before) (now list) (now words)) ⌝ }
-    requires { ⌜ (
-        let before = tableOf (now vars) (now lows) (now highs) (now heads) (now links) count in
-        (length (now list) ≡ length (now known)) × LookSays (diagramsOf (nodesOf before) (now known)) looked) ⌝ }
+        (length (now words) ≡ length (now list))
+        × Supports (nodesOf before) (now list) (now words)
+        × (length (now list) ≡ length (now known))
+        × LookSays (diagramsOf (nodesOf before) (now known)) looked) ⌝ }
     ensures { λ r. ⌜ (
         let before = tableOf (now (vars .entry)) (now (lows .entry)) (now (highs .entry)) (now (heads .entry)) (now (links .entry)) count in
         let after = tableOf (now (vars .exit)) (now (lows .exit)) (now (highs .exit)) (now (heads .exit)) (now (links .exit)) (r .count) in
