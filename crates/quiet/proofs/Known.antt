@@ -13,7 +13,9 @@ use Rattle.meaning.specs.Diagram.{Diagram, leaf}
 use Rattle.meaning.specs.Rules.{hasUnit, firstWithUnit}
 use Rattle.meaning.proofs.Booleans.{t≢f}
 use Rattle.table.specs.Nodes.{Node, diagramAt}
-use Rattle.table.specs.Lists.{diagramsOf}
+use Rattle.table.specs.Indexed.{Table, nodesOf, Good}
+use Rattle.table.specs.Lists.{diagramsOf, Inside, Extended}
+use Rattle.table.proofs.Extended.{extended-longer, diagrams-kept}
 use Rattle.touched.specs.Places.{AllBut}
 use Rattle.touched.proofs.Places.{but-passed, but-added}
 use Rattle.conflict.specs.Members.{Asked}
@@ -42,6 +44,20 @@ unitless-all (f ∷ fs) e k p = at (λ z. unitless-all fs z) k p (parts (hasUnit
         → (hasUnit 64 64 f ≡ false) × (firstWithUnit 64 fs ≡ none) → hasUnit 64 64 (getD (f ∷ fs) k (leaf false)) ≡ false
     at later zero p q = q .0
     at later (suc k) p q = later (q .1) k (omega arith)
+
+-- of a list that was not looked at nothing is said
+pub nothing-known : (ms : List Diagram) (n : ℕ) → LookSays ms (record { quiet = false; unitless = n })
+nothing-known ms n = record { none = λ z. t≢f (sym z); most = λ z. t≢f (sym z); unitless = λ z. t≢f (sym z) }
+
+-- what was told holds while nodes are placed, and in the same table again
+pub looked-kept : (T T′ : Table) → Good T → Extended T T′ → (list : List ℕ) → Inside (T .count) list → (looked : Looked)
+    → LookSays (diagramsOf (nodesOf T) list) looked → LookSays (diagramsOf (nodesOf T′) list) looked
+looked-kept T T′ G E list inside looked =
+    subst (λ (ms : List Diagram). LookSays ms looked) (sym (diagrams-kept T T′ (extended-longer T T′ G E) list inside))
+
+pub looked-again : (T T′ : Table) → T′ ≡ T → (list : List ℕ) (looked : Looked) → LookSays (diagramsOf (nodesOf T) list) looked
+    → LookSays (diagramsOf (nodesOf T′) list) looked
+looked-again T T′ e list looked = subst (λ (t : Table). LookSays (diagramsOf (nodesOf t) list) looked) (sym e)
 
 -- ---- the walk over two lists
 

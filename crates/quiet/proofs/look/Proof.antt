@@ -6,14 +6,13 @@ use native.Mathlib.Omega.{arith}
 use lib.ListN.{length-map}
 use borrow.Author.Needs.{needs}
 use Rattle.meaning.specs.Diagram.{Diagram}
-use Rattle.meaning.proofs.Booleans.{t≢f}
 use Rattle.table.specs.Nodes.{Node, diagramAt}
 use Rattle.table.specs.Indexed.{tableOf, nodesOf}
 use Rattle.table.specs.Lists.{diagramsOf}
 use Rattle.walks.proofs.Here.{good-readable}
 use Rattle.unit_search.specs.Units.{AreFirst}
 use Rattle.propagate.proofs.Quieting.{asked-all, units-all}
-use Rattle.quiet.proofs.Known.{unitless-all}
+use Rattle.quiet.proofs.Known.{unitless-all, nothing-known}
 use Rattle.quiet.proofs.look.Statement.{statement}
 use Rattle.quiet.proofs.look.Tie as tie
 
@@ -103,7 +102,7 @@ same-length-2 c = search needs
 
 returns : tie.Need-returns
 returns c =
-    (record { none = λ z. t≢f (sym z); most = λ z. t≢f (sym z); unitless = λ z. t≢f (sym z) }, conflicts-from-then1 c .conflicts .ensures .1)
+    (nothing-known _ _, conflicts-from-then1 c .conflicts .ensures .1)
 
 slice-aggregate-first-units : tie.Need-slice-aggregate-first-units
 slice-aggregate-first-units c = search needs
