@@ -13,7 +13,7 @@ ghost use Rattle.table.specs.Lists.{diagramsOf, Inside};
 ghost use Rattle.conflict.specs.Marks.{isListed, unmarked, setAll, markedAt, FoundInside};
 
 // Whether node 0 is listed.
-fn has_zero(list: &[u16]) -> bool
+pub fn has_zero(list: &[u16]) -> bool
     ensures { λ r. ⌜ r ≡ isListed (now (list .entry)) 0 ⌝ }
 {
     let mut i: usize = 0;

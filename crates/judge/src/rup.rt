@@ -1,4 +1,5 @@
 // A RUP line: the members by not-g, propagated.
+use quiet::Looked;
 use table::NodeNo;
 ghost use mathlib.Core.Path.{_≡_};
 ghost use mathlib.Core.Bool.{false};
@@ -9,10 +10,11 @@ ghost use Rattle.table.specs.Nodes.{diagramAt};
 ghost use Rattle.table.specs.Indexed.{tableOf, nodesOf};
 ghost use Rattle.table.specs.Lists.{diagramsOf};
 ghost use Rattle.conflict.specs.Marks.{unmarked};
+ghost use Rattle.quiet.specs.Quiet.{LookSays};
 ghost use Rattle.judge.specs.Lines.{Negatable, Worded, LineSays};
 
-// The RUP line of node `root`, worked out in `list`, where `memberwords` has the members' variables and `word` those of the root.
-// Its nodes stay.
+// The RUP line of node `root`, worked out in `list`, where `memberwords` has the members' variables and `word` those of the root, and the
+// members were `looked` at. Its nodes stay.
 pub fn rup_with(
     vars: &mut [u8],
     lows: &mut [u16],
@@ -28,6 +30,7 @@ pub fn rup_with(
     count: usize,
     root: NodeNo,
     word: u64,
+    looked: Looked,
 ) -> crate::Judged
     requires { ⌜ (
         let before = tableOf (now vars) (now lows) (now highs) (now heads) (now links) count in
@@ -37,7 +40,9 @@ pub fn rup_with(
         × (length (now members) ≤ 2048)) ⌝ }
     requires { ⌜ (
         let before = tableOf (now vars) (now lows) (now highs) (now heads) (now links) count in
-        Worded before (now members) (now memberwords) (root .0) word × (length (now words) ≡ length (now members))) ⌝ }
+        Worded before (now members) (now memberwords) (root .0) word
+        × (length (now words) ≡ length (now members))
+        × LookSays (diagramsOf (nodesOf before) (now members)) looked) ⌝ }
     ensures { λ r. ⌜ (
         let before = tableOf (now (vars .entry)) (now (lows .entry)) (now (highs .entry)) (now (heads .entry)) (now (links .entry)) count in
         let after = tableOf (now (vars .exit)) (now (lows .exit)) (now (highs .exit)) (now (heads .exit)) (now (links .exit)) (r .count) in
@@ -68,7 +73,7 @@ pub fn rup_with(
             peak: made.count,
         };
     }
-    let p = propagate::unit_prop(
+    let p = quiet::unit_prop_known(
         vars,
         lows,
         highs,
@@ -76,9 +81,11 @@ pub fn rup_with(
         links,
         memo,
         marks,
+        members,
         list,
         words,
         made.count,
+        looked,
     );
     crate::Judged {
         full: p.full,
@@ -135,5 +142,9 @@ pub fn rup(
         count,
         root,
         word,
+        Looked {
+            quiet: false,
+            unitless: 0,
+        },
     )
 }

@@ -8,7 +8,6 @@ ghost use mathlib.Core.Path.{_≡_};
 ghost use Prim.Native.Nat.{_≤_};
 ghost use mathlib.Core.Option.{some};
 ghost use lib.ListN.{length};
-ghost use lib.Dec.{eqb};
 ghost use lib.Bits.{bitOr};
 ghost use Rattle.meaning.specs.Diagram.{Diagram};
 ghost use Rattle.meaning.specs.Rules.{firstWithUnit, byUnits, unitProp};
@@ -38,9 +37,9 @@ pub enum Next {
     By { units: Literals, place: usize },
 }
 
-// What comes after so many rounds: `nodes` has the members that the last of them may have changed, which stand at `places`, or all members
-// where there was none yet. Of the members before `asked` only these may have a unit.
-fn next_round(
+// What comes after so many rounds: `nodes` has the members that may have changed since the last look, which stand at `places`, or `all`
+// members. Of the members before `asked` only these may have a unit.
+pub fn next_round(
     vars: &[u8],
     lows: &[u16],
     highs: &[u16],
@@ -54,13 +53,14 @@ fn next_round(
     count: usize,
     asked: usize,
     rounds: u32,
+    all: bool,
 ) -> Next
     requires { ⌜ (
         let before = tableOf (now vars) (now lows) (now highs) (now heads) (now links) count in
         ListReady before (now list) (now memo) × (now marks ≡ unmarked (length (now vars))) × (rounds ≤ 64)) ⌝ }
     requires { ⌜ (
         let before = tableOf (now vars) (now lows) (now highs) (now heads) (now links) count in
-        Asked (nodesOf before) (now list) (now nodes) (eqb rounds 0)
+        Asked (nodesOf before) (now list) (now nodes) all
         × UnitsAsked (diagramsOf (nodesOf before) (now list)) (now places) asked) ⌝ }
     ensures { λ r. ⌜ (
         let before = tableOf (now (vars .entry)) (now (lows .entry)) (now (highs .entry)) (now (heads .entry)) (now (links .entry)) count in
@@ -78,7 +78,7 @@ fn next_round(
         list,
         nodes,
         count,
-        rounds == 0,
+        all,
     ) {
         return Next::End(true);
     }
@@ -92,7 +92,7 @@ fn next_round(
 }
 
 // What comes first in a propagation: all members are asked.
-fn first_round(
+pub fn first_round(
     vars: &[u8],
     lows: &[u16],
     highs: &[u16],
@@ -125,6 +125,7 @@ fn first_round(
         count,
         0,
         0,
+        true,
     )
 }
 
@@ -187,7 +188,7 @@ fn round(
 }
 
 // The rounds of a propagation from the first on, which is due by the units of the member at the place.
-fn rounds_by(
+pub fn rounds_by(
     vars: &mut [u8],
     lows: &mut [u16],
     highs: &mut [u16],
@@ -261,6 +262,7 @@ fn rounds_by(
             n,
             asked,
             rounds,
+            false,
         ) {
             Next::End(conflict) => {
                 return Propagated {

@@ -1,14 +1,11 @@
 -- Round by round: what holds before one holds before the next. Assumes nothing.
 use mathlib.Core.Path.{_≡_, refl, sym, ap, _∙_, subst}
-use mathlib.Core.Bool.{Bool, false}
+use mathlib.Core.Bool.{false}
 use mathlib.Core.List.{List}
 use Prim.Native.Nat.{ℕ, _+_, _-_}
 use native.Mathlib.Omega.{arith}
-use lib.ListN.{take}
-use lib.Dec.{eqb}
 use lib.Seq.{length-take-le}
 use borrow.Author.Needs.{needs}
-use borrow.Author.Tests.{ne-eqb}
 use Rattle.table.specs.Indexed.{nodesOf}
 use Rattle.table.specs.Lists.{diagramsOf}
 use Rattle.conflict.specs.Marks.{unmarked}
@@ -313,8 +310,7 @@ next-round-requires c κs =
     let l = at-loop-from-next-round-call c in
     let w = l .loop in
     let y = round-from-next-round-call c in
-    let on = goes-on e (y .round .last .1 .1 .1 .1 .1 .0) (y .round .kept .1 .1 .1 .1 .1 .0) (w .marks) (w .inv .0 .going .clear) in
-    let later : eqb (w .rounds + 1) 0 ≡ false = ne-eqb (w .rounds + 1) 0 (λ z. absurd (omega (arith, z))) in (
+    let on = goes-on e (y .round .last .1 .1 .1 .1 .1 .0) (y .round .kept .1 .1 .1 .1 .1 .0) (w .marks) (w .inv .0 .going .clear) in (
       (
         going-ready (entry s) (s .pre .0 .0 .good) (diagramsOf (nodesOf (entry s)) (s .args .list .now)) (after y) (list-after y) _
             (w .marks) (w .rounds + 1) on,
@@ -322,10 +318,8 @@ next-round-requires c κs =
         omega (arith, w .inv .0 .due .0),
       ),
       (
-        subst (λ (b : Bool). Asked (nodesOf (after y)) (list-after y)
-            (take (many (nodes-at-from-next-round-call c)) (nodes-at-from-next-round-call c .nodes-at .last .1 .1 .0)) b) (sym later)
-            (subst (λ (nodes : List ℕ). Asked (nodesOf (after y)) (list-after y) nodes false)
-            (sym (nodes-are (nodes-at-from-next-round-call c))) (asks e)),
+        subst (λ (nodes : List ℕ). Asked (nodesOf (after y)) (list-after y) nodes false)
+            (sym (nodes-are (nodes-at-from-next-round-call c))) (asks e),
         asks-units e,
       ),
     )

@@ -6,6 +6,7 @@ use native.Mathlib.Omega.{arith}
 use lib.ListN.{length}
 use Rattle.table.specs.Indexed.{Table, tableOf, nodesOf}
 use Rattle.walks.proofs.Here.{good-readable}
+use Rattle.quiet.proofs.Known.{nothing-known}
 use Rattle.judge.specs.Lines.{Negatable, Worded}
 use Rattle.judge.proofs.Ready.{memo-again}
 use Rattle.judge.proofs.rup.rup.Statement.{statement}
@@ -100,7 +101,7 @@ rup-with-requires : tie.Need-rup-with-requires
 rup-with-requires c κs =
     let a = support-from-from-rup-with-call c in
     let s = begun a in
-    ((negatable a, s .pre .0 .1, s .pre .0 .2, s .pre .0 .3), (worded a, s .pre .1 .1))
+    ((negatable a, s .pre .0 .1, s .pre .0 .2, s .pre .0 .3), (worded a, s .pre .1 .1, nothing-known _ _))
 
 same-length : tie.Need-same-length
 same-length c =

@@ -11,6 +11,7 @@ use Rattle.table.specs.Nodes.{diagramAt}
 use Rattle.table.specs.Indexed.{Table, tableOf, nodesOf}
 use Rattle.table.specs.Lists.{diagramsOf}
 use Rattle.conflict.specs.Marks.{unmarked}
+use Rattle.quiet.proofs.Known.{looked-kept}
 use Rattle.judge.specs.Lines.{ByNegation}
 use Rattle.judge.proofs.Ready.{list-ready}
 use Rattle.judge.proofs.Judging.{rup-full, rup-judged}
@@ -47,20 +48,20 @@ module _ (c : tie.Then1) where
   abbrev by-negation-from-then1 : tie.After-by-negation
   by-negation-from-then1 = by-negation-from-slice-known17 (c .before)
 
-module _ (c : tie.After-unit-prop-arg9) where
-  abbrev else1-from-unit-prop-call : tie.Else1
-  else1-from-unit-prop-call = c .before .before .before .before .before .before .before .before .before
+module _ (c : tie.After-unit-prop-known-arg9) where
+  abbrev else1-from-unit-prop-known-call : tie.Else1
+  else1-from-unit-prop-known-call = c .before .before .before .before .before .before .before .before .before
 
-  abbrev by-negation-from-unit-prop-call : tie.After-by-negation
-  by-negation-from-unit-prop-call = by-negation-from-slice-known17 (else1-from-unit-prop-call .before)
+  abbrev by-negation-from-unit-prop-known-call : tie.After-by-negation
+  by-negation-from-unit-prop-known-call = by-negation-from-slice-known17 (else1-from-unit-prop-known-call .before)
 
 module _ (c : tie.After-struct-known) where
-  abbrev unit-prop-from-return-2 : tie.After-unit-prop
-  unit-prop-from-return-2 = c .before .before .before .before .before .before .before .before .before .before .before .before .before
+  abbrev unit-prop-known-from-return-2 : tie.After-unit-prop-known
+  unit-prop-known-from-return-2 = c .before .before .before .before .before .before .before .before .before .before .before .before .before
       .before .before .before .before .before .before
 
   abbrev else1-from-return-2 : tie.Else1
-  else1-from-return-2 = else1-from-unit-prop-call (unit-prop-from-return-2 .before)
+  else1-from-return-2 = else1-from-unit-prop-known-call (unit-prop-known-from-return-2 .before)
 
   abbrev by-negation-from-return-2 : tie.After-by-negation
   by-negation-from-return-2 = by-negation-from-slice-known17 (else1-from-return-2 .before)
@@ -87,7 +88,7 @@ module _ (a : tie.After-by-negation) where
 by-negation-requires : tie.Need-by-negation-requires
 by-negation-requires c κs = (
   (start-from-by-negation-call c .pre .0 .0, start-from-by-negation-call c .pre .0 .2, start-from-by-negation-call c .pre .0 .3),
-  start-from-by-negation-call c .pre .1,
+  (start-from-by-negation-call c .pre .1 .0, start-from-by-negation-call c .pre .1 .1),
 )
 
 same-length : tie.Need-same-length
@@ -130,11 +131,11 @@ returns c =
       s .pre .0 .1,
     )
 
-unit-prop-requires : tie.Need-unit-prop-requires
-unit-prop-requires c κs =
-    let a = by-negation-from-unit-prop-call c in
+unit-prop-known-requires : tie.Need-unit-prop-known-requires
+unit-prop-known-requires c κs =
+    let a = by-negation-from-unit-prop-known-call c in
     let s = start a in
-    let B = by-negation a false (else1-from-unit-prop-call c .if1 .left) in (
+    let B = by-negation a false (else1-from-unit-prop-known-call c .if1 .left) in (
       (
         list-ready (before s) (members s) (root s) (table₁ a) (list₁ a) (s .args .memo .now) (a .by-negation .last .1 .1 .1 .1 .1 .0) B
             (s .pre .0 .0 .ready .room) (memo-length a),
@@ -144,57 +145,60 @@ unit-prop-requires c κs =
       (
         a .by-negation .kept .1 .1 .1 .1 .1 .1 .1 .1 .1 .0 ∙ s .pre .1 .1
             ∙ sym (a .by-negation .kept .1 .1 .1 .1 .1 .1 .1 .1 .0 ∙ s .pre .0 .2),
-        a .by-negation .ensures .1 (else1-from-unit-prop-call c .if1 .left),
+        a .by-negation .ensures .1 (else1-from-unit-prop-known-call c .if1 .left),
+        a .by-negation .kept .1 .1 .1 .1 .1 .1 .1 .1 .0 ∙ s .pre .0 .2,
+        looked-kept (before s) (table₁ a) (s .pre .0 .0 .ready .good) (B .extended) (s .args .members .now) (s .pre .0 .0 .ready .inside)
+            (s .args .looked) (s .pre .1 .2),
       ),
     )
 
-cast-t52 : tie.Need-cast-t52
-cast-t52 c =
+cast-t53 : tie.Need-cast-t53
+cast-t53 c =
     search needs
 
 same-length-9 : tie.Need-same-length-9
 same-length-9 c =
-    unit-prop-from-return-2 c .unit-prop .kept .0 ∙ by-negation-from-return-2 c .by-negation .kept .0
+    unit-prop-known-from-return-2 c .unit-prop-known .kept .0 ∙ by-negation-from-return-2 c .by-negation .kept .0
 
 same-length-10 : tie.Need-same-length-10
 same-length-10 c =
-    unit-prop-from-return-2 c .unit-prop .kept .1 .0 ∙ by-negation-from-return-2 c .by-negation .kept .1 .0
+    unit-prop-known-from-return-2 c .unit-prop-known .kept .1 .0 ∙ by-negation-from-return-2 c .by-negation .kept .1 .0
 
 same-length-11 : tie.Need-same-length-11
 same-length-11 c =
-    unit-prop-from-return-2 c .unit-prop .kept .1 .1 .0 ∙ by-negation-from-return-2 c .by-negation .kept .1 .1 .0
+    unit-prop-known-from-return-2 c .unit-prop-known .kept .1 .1 .0 ∙ by-negation-from-return-2 c .by-negation .kept .1 .1 .0
 
 same-length-12 : tie.Need-same-length-12
 same-length-12 c =
-    unit-prop-from-return-2 c .unit-prop .kept .1 .1 .1 .0 ∙ by-negation-from-return-2 c .by-negation .kept .1 .1 .1 .0
+    unit-prop-known-from-return-2 c .unit-prop-known .kept .1 .1 .1 .0 ∙ by-negation-from-return-2 c .by-negation .kept .1 .1 .1 .0
 
 same-length-13 : tie.Need-same-length-13
 same-length-13 c =
-    unit-prop-from-return-2 c .unit-prop .kept .1 .1 .1 .1 .0 ∙ by-negation-from-return-2 c .by-negation .kept .1 .1 .1 .1 .0
+    unit-prop-known-from-return-2 c .unit-prop-known .kept .1 .1 .1 .1 .0 ∙ by-negation-from-return-2 c .by-negation .kept .1 .1 .1 .1 .0
 
 same-length-14 : tie.Need-same-length-14
 same-length-14 c =
-    unit-prop-from-return-2 c .unit-prop .kept .1 .1 .1 .1 .1 .0 ∙ by-negation-from-return-2 c .by-negation .kept .1 .1 .1 .1 .1 .0
+    unit-prop-known-from-return-2 c .unit-prop-known .kept .1 .1 .1 .1 .1 .0 ∙ by-negation-from-return-2 c .by-negation .kept .1 .1 .1 .1 .1 .0
 
 same-length-15 : tie.Need-same-length-15
 same-length-15 c =
-    unit-prop-from-return-2 c .unit-prop .kept .1 .1 .1 .1 .1 .1 .0
+    unit-prop-known-from-return-2 c .unit-prop-known .kept .1 .1 .1 .1 .1 .1 .0
 
 same-length-16 : tie.Need-same-length-16
 same-length-16 c =
-    unit-prop-from-return-2 c .unit-prop .kept .1 .1 .1 .1 .1 .1 .1 .0 ∙ by-negation-from-return-2 c .by-negation .kept .1 .1 .1 .1 .1 .1 .1
+    unit-prop-known-from-return-2 c .unit-prop-known .kept .1 .1 .1 .1 .1 .1 .1 .1 .0 ∙ by-negation-from-return-2 c .by-negation .kept .1 .1 .1 .1 .1 .1 .1
     .1 .0
 
 same-length-17 : tie.Need-same-length-17
 same-length-17 c =
-    unit-prop-from-return-2 c .unit-prop .kept .1 .1 .1 .1 .1 .1 .1 .1 .0
+    unit-prop-known-from-return-2 c .unit-prop-known .kept .1 .1 .1 .1 .1 .1 .1 .1 .1 .0
     ∙ by-negation-from-return-2 c .by-negation .kept .1 .1 .1 .1 .1 .1 .1 .1 .1 .0
 
 returns-2 : tie.Need-returns-2
 returns-2 c =
     let a = by-negation-from-return-2 c in
     let s = start a in
-    let p = unit-prop-from-return-2 c .unit-prop in (
+    let p = unit-prop-known-from-return-2 c .unit-prop-known in (
       rup-judged (before s) (s .pre .0 .0 .ready .good) (members s) (root s) (table₁ a) (list₁ a)
           (by-negation a false (else1-from-return-2 c .if1 .left)) (p .result)
           (tableOf (p .last .0) (p .last .1 .0) (p .last .1 .1 .0) (p .last .1 .1 .1 .0) (p .last .1 .1 .1 .1 .0) (p .result .count))
@@ -216,8 +220,8 @@ rup-with-spec =
     same-length-7
     same-length-8
     returns
-    unit-prop-requires
-    cast-t52
+    unit-prop-known-requires
+    cast-t53
     same-length-9
     same-length-10
     same-length-11
