@@ -18,7 +18,7 @@ const CELLS_4096: usize = 8192;
 
 const CELLS_65536: usize = 131072;
 
-// The greatest counts with which they hold all results: of one operand each node's in half of the cells, of two operands each pair's of nodes.
+// The greatest counts with which they have two cells for each node, enough for one operand; and a cell for each two nodes, for two.
 const ALONE_64: usize = 512;
 
 const PAIRED_64: usize = 46;
@@ -147,8 +147,8 @@ fn judged(
     made(vars, lows, highs, heads, links, memo, count, op, f, g)
 }
 
-// Whether a memo for up to so many places is enough for a table of this size: also where it holds all results, since the count is at most
-// `alone` with one operand, at most `paired` with two.
+// Whether a memo for up to so many places is enough for a table of this size: also where the count is at most `alone` with one operand, at
+// most `paired` with two, so that it has room for all results.
 fn is_enough(
     places: usize,
     alone: usize,
