@@ -36,9 +36,9 @@ pub fn all() -> Vec<Workload> {
     ]);
     for (places, [depth, width]) in [(4_096, [8, 240]), (65_536, [9, 300])] {
         all.extend([
-            workloads::proof("paths with rounds over long clauses", &rounds::paths_over_clauses(7, 100, 1), places),
-            workloads::proof("turns with rounds over long clauses", &rounds::turns_over_clauses(100, 100, 1), places),
-            workloads::proof("PR lines over wide levels, excluding", &pairs::wide_turns(depth, width, 3, 1), places),
+            workloads::proof("rounds of paths, long clauses", &rounds::paths_over_clauses(7, 100, 1), places),
+            workloads::proof("rounds of turns, long clauses", &rounds::turns_over_clauses(100, 100, 1), places),
+            workloads::proof("PR lines, wide levels excluding", &pairs::wide_turns(depth, width, 3, 1), places),
         ]);
     }
     all
