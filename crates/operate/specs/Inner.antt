@@ -11,7 +11,7 @@ use Rattle.meaning.specs.Uses.{Uses, Forces}
 use Rattle.table.specs.declared.Found.{Found}
 use Rattle.table.specs.declared.Found.the-variants.{At, Nothing}
 use Rattle.table.specs.Nodes.{diagramAt, place}
-use Rattle.table.specs.Indexed.{Table, size, nodesOf, Good, Outcome, written}
+use Rattle.table.specs.Indexed.{Table, tableOf, size, nodesOf, Good, Outcome, written}
 use Rattle.operate.specs.declared.Operation.{Operation}
 use Rattle.operate.specs.declared.Operation.the-variants.{Conjunction, Negation, Cofactor, Literals}
 use Rattle.operate.specs.declared.step.Kind.{Kind}
@@ -19,6 +19,10 @@ use Rattle.operate.specs.declared.step.Kind.the-variants.{And, Not, ByDi
 use Rattle.operate.specs.declared.step.Sides.{Sides}
 use Rattle.operate.specs.declared.step.Descent.{Descent}
 use Rattle.operate.specs.declared.step.Descent.the-variants.{One, Both}
+use Rattle.operate.specs.declared.step.Next.{Next}
+use Rattle.operate.specs.declared.step.Next.the-variants as next
+use Rattle.operate.specs.declared.step.Ahead.{Ahead}
+use Rattle.operate.specs.declared.step.Ahead.the-variants as ahead
 use Rattle.meaning.specs.Words.{inWord}
 use Rattle.words.specs.declared.Literals as words
 use Rattle.words.specs.Sets.{noLiterals, endsBefore}
@@ -172,3 +176,43 @@ pub record Ready (op : Operation) (memo : List ℕ) (t : Table) (f g : ℕ) : Ty
 pub record SidesReady (op : Operation) (memo : List ℕ) (t : Table) (s : Sides) : Type 0 where
   pub operands : SideOperands op t s
   pub right : MemoRight op memo t
+
+-- ---- steps of one side
+
+-- The operation on f and g can be done in the table, and the word has what f has of the variables that g forces.
+pub record Given (op : Operation) (shared : ℕ) (t : Table) (f g : ℕ) : Type 0 where
+  pub operands : Operands op t f g
+  pub share : Shared op shared t f g
+
+-- The columns are those of such a table.
+pub record SomeGiven (op : Operation) (shared : ℕ) (vars lows highs : List ℕ) (f g : ℕ) : Type 0 where
+  pub heads : List ℕ
+  pub links : List ℕ
+  pub count : ℕ
+  pub given : Given op shared (tableOf vars lows highs heads links count) f g
+
+-- What the operation makes of two nodes.
+abbrev pub resultAt : Operation → Table → ℕ → ℕ → Diagram
+resultAt op t f g = result op (diagramAt (nodesOf t) f) (diagramAt (nodesOf t) g)
+
+-- The two sides can be done in the table, their variables are after x, which is `first` or later, and they make the diagram D.
+pub record Split (op : Operation) (shared : ℕ) (t : Table) (first : ℕ) (D : Diagram) (s : Sides) : Type 0 where
+  pub operands : SideOperands op t s
+  pub low-share : Shared op shared t (s .f0 .0) (s .g0 .0)
+  pub high-share : Shared op shared t (s .f1 .0) (s .g1 .0)
+  pub after : first ≤ s .x
+  pub over : D ≡ branch (s .x) (resultAt op t (s .f0 .0) (s .g0 .0)) (resultAt op t (s .f1 .0) (s .g1 .0))
+
+-- What a step says of f and g: the result is node k; it is that of another pair, whose variables come later; or two sides make it.
+abbrev pub NextSays : Operation → ℕ → Table → ℕ → ℕ → Next → Type 0
+NextSays op shared t f g (next.Told k) = Right op t f g (k .0)
+NextSays op shared t f g (next.One a b) =
+    Given op shared t (a .0) (b .0)
+    × (top (t .vars) f g < top (t .vars) (a .0) (b .0))
+    × (resultAt op t f g ≡ resultAt op t (a .0) (b .0))
+NextSays op shared t f g (next.Both s) = Split op shared t (top (t .vars) f g) (resultAt op t f g) s
+
+-- What all steps of one side say of f and g.
+abbrev pub AheadSays : Operation → ℕ → Table → ℕ → ℕ → Ahead → Type 0
+AheadSays op shared t f g (ahead.Told k) = Right op t f g (k .0)
+AheadSays op shared t f g (ahead.Both s) = Split op shared t (top (t .vars) f g) (resultAt op t f g) s

@@ -1,7 +1,7 @@
 // Conjunction, negation and the two cofactors by one recursion over the nodes of a table, with a memo.
-// Terminal cases first, the memo next, then whether f comes after all that is shared, the branches last, one store into the memo at the
-// end.
-use crate::step::Descent;
+// The memo first; then the steps of one side down to a node that is told or to two sides; these by the recursion, and one store into the
+// memo at the end.
+use crate::step::Ahead;
 use crate::step::Kind;
 use crate::step::Sides;
 use table::Found;
@@ -9,8 +9,9 @@ use table::NodeNo;
 use table::Placed;
 use words::Literals;
 ghost use mathlib.Core.Path.{_≡_};
+ghost use Prim.Native.Nat.{_<_};
 ghost use Rattle.table.specs.Indexed.{tableOf, outcomeOf};
-ghost use Rattle.operate.specs.Inner.{applied, joinedOf, operationOf, terminalOf, Shared, MemoRight, Ready, SidesReady};
+ghost use Rattle.operate.specs.Inner.{applied, joinedOf, operationOf, Shared, MemoRight, Ready, SidesReady};
 
 pub mod step;
 
@@ -87,10 +88,24 @@ pub fn apply_sharing(
 {
     let kind = step::kind_of(op);
     let by = step::by_of(op, shared);
-    work_out(vars, lows, highs, heads, links, memo, count, kind, by, f, g)
+    let mix = memo::mixed(f, g);
+    work_out(
+        vars,
+        lows,
+        highs,
+        heads,
+        links,
+        memo,
+        count,
+        kind,
+        by,
+        f,
+        g,
+        mix,
+    )
 }
 
-// The operation from its terminals, its memo, where f comes after all that is shared, or its branches.
+// The operation from its memo, from what the steps of one side lead to, or from two sides. The numbers of f and g are mixed to `mix`.
 fn work_out(
     vars: &mut [u8],
     lows: &mut [u16],
@@ -103,72 +118,13 @@ fn work_out(
     by: Literals,
     f: NodeNo,
     g: NodeNo,
-) -> Placed
-    requires { ⌜ (
-        let before = tableOf (now vars) (now lows) (now highs) (now heads) (now links) count in
-        Ready (operationOf kind by) (now memo) before (f .0) (g .0)
-        × Shared (operationOf kind by) (by .positive) before (f .0) (g .0)) ⌝ }
-    ensures { λ r. ⌜ (
-        let before = tableOf (now (vars .entry)) (now (lows .entry)) (now (highs .entry)) (now (heads .entry)) (now (links .entry)) count in
-        outcomeOf (now (vars .exit)) (now (lows .exit)) (now (highs .exit)) (now (heads .exit)) (now (links .exit)) r
-        ≡ applied before (operationOf kind by) (f .0) (g .0)) ⌝ }
-    ensures { λ r. ⌜ (
-        let after = tableOf (now (vars .exit)) (now (lows .exit)) (now (highs .exit)) (now (heads .exit)) (now (links .exit)) (r .count) in
-        MemoRight (operationOf kind by) (now (memo .exit)) after) ⌝ }
-{
-    match step::terminal(step::operation_of(kind, by), f, g) {
-        Found::At(r) => Placed {
-            full: false,
-            node: r,
-            count,
-        },
-        Found::Nothing => {
-            let x = step::top_of(vars, f, g);
-            match memo::memo_find(memo, x, f, g) {
-                Found::At(r) => Placed {
-                    full: false,
-                    node: r,
-                    count,
-                },
-                Found::Nothing => {
-                    if step::is_beyond(vars, kind, by, f) {
-                        return Placed {
-                            full: false,
-                            node: f,
-                            count,
-                        };
-                    }
-                    let p = descend(vars, lows, highs, heads, links, memo, count, kind, by, f, g);
-                    if p.full {
-                        return p;
-                    }
-                    memo::memo_put(memo, x, f, g, p.node);
-                    p
-                }
-            }
-        }
-    }
-}
-
-// The operation from those of the branches.
-fn descend(
-    vars: &mut [u8],
-    lows: &mut [u16],
-    highs: &mut [u16],
-    heads: &mut [u16],
-    links: &mut [u16],
-    memo: &mut [u64],
-    count: usize,
-    kind: Kind,
-    by: Literals,
-    f: NodeNo,
-    g: NodeNo,
+    mix: u64,
 ) -> Placed
     requires { ⌜ (
         let before = tableOf (now vars) (now lows) (now highs) (now heads) (now links) count in
         Ready (operationOf kind by) (now memo) before (f .0) (g .0)
         × Shared (operationOf kind by) (by .positive) before (f .0) (g .0)
-        × (terminalOf (operationOf kind by) (f .0) (g .0) ≡ Found.Nothing)) ⌝ }
+        × (mix < 4294967296)) ⌝ }
     ensures { λ r. ⌜ (
         let before = tableOf (now (vars .entry)) (now (lows .entry)) (now (highs .entry)) (now (heads .entry)) (now (links .entry)) count in
         outcomeOf (now (vars .exit)) (now (lows .exit)) (now (highs .exit)) (now (heads .exit)) (now (links .exit)) r
@@ -177,22 +133,28 @@ fn descend(
         let after = tableOf (now (vars .exit)) (now (lows .exit)) (now (highs .exit)) (now (heads .exit)) (now (links .exit)) (r .count) in
         MemoRight (operationOf kind by) (now (memo .exit)) after) ⌝ }
 {
-    let s = step::sides_of(vars, lows, highs, f, g);
-    match step::descent_of(step::operation_of(kind, by), s) {
-        Descent::One { f: a, g: b } => work_out(
-            vars,
-            lows,
-            highs,
-            heads,
-            links,
-            memo,
+    let x = step::top_of(vars, f, g);
+    match memo::memo_find(memo, mix, x, f, g) {
+        Found::At(r) => Placed {
+            full: false,
+            node: r,
             count,
-            kind,
-            by,
-            a,
-            b,
-        ),
-        Descent::Both(s) => join(vars, lows, highs, heads, links, memo, count, kind, by, s),
+        },
+        Found::Nothing => match step::forced_down(vars, lows, highs, kind, by, f, g) {
+            Ahead::Told(r) => Placed {
+                full: false,
+                node: r,
+                count,
+            },
+            Ahead::Both(s) => {
+                let p = join(vars, lows, highs, heads, links, memo, count, kind, by, s);
+                if p.full {
+                    return p;
+                }
+                memo::memo_put(memo, mix, x, f, g, p.node);
+                p
+            }
+        },
     }
 }
 
@@ -222,7 +184,8 @@ fn join(
         let after = tableOf (now (vars .exit)) (now (lows .exit)) (now (highs .exit)) (now (heads .exit)) (now (links .exit)) (r .count) in
         MemoRight (operationOf kind by) (now (memo .exit)) after) ⌝ }
 {
-    let p = match memo::memo_home(memo, s.f0, s.g0) {
+    let low = memo::mixed(s.f0, s.g0);
+    let p = match memo::memo_home(memo, low, s.f0, s.g0) {
         Found::At(r) => Placed {
             full: false,
             node: r,
@@ -240,13 +203,15 @@ fn join(
             by,
             s.f0,
             s.g0,
+            low,
         ),
     };
     if p.full {
         return p;
     }
     let n = p.count;
-    let q = match memo::memo_home(memo, s.f1, s.g1) {
+    let high = memo::mixed(s.f1, s.g1);
+    let q = match memo::memo_home(memo, high, s.f1, s.g1) {
         Found::At(r) => Placed {
             full: false,
             node: r,
@@ -264,6 +229,7 @@ fn join(
             by,
             s.f1,
             s.g1,
+            high,
         ),
     };
     if q.full {

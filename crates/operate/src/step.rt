@@ -4,9 +4,12 @@ use table::Found;
 use table::NodeNo;
 use words::Literals;
 ghost use mathlib.Core.Path.{_≡_};
-ghost use Prim.Native.Nat.{_≤_, _<_};
+ghost use mathlib.Core.List.{List};
+ghost use Prim.Native.Nat.{ℕ, _≤_, _<_};
 ghost use lib.ListN.{length, getD};
+ghost use Rattle.table.specs.Indexed.{tableOf};
 ghost use Rattle.operate.specs.Inner.{kindOf, byOf, operationOf, terminalOf, level, top, childOr, sidesOf, descentOf, beyond};
+ghost use Rattle.operate.specs.Inner.{Given, SomeGiven, NextSays, AheadSays};
 
 // An operation without the literals of a cofactor by literals. The recursion hands the two on apart: a kind goes in a register, and
 // copying an operation whole from call to call is slow.
@@ -222,5 +225,82 @@ pub fn is_beyond(vars: &[u8], kind: Kind, by: Literals, f: NodeNo) -> bool
         Kind::Not => false,
         Kind::ByDiagram => before,
         Kind::ByLiterals => before,
+    }
+}
+
+// A step from two nodes: the result is told; it is that of another pair, where one side makes it; or both sides make it.
+pub enum Next {
+    Told(NodeNo),
+    One { f: NodeNo, g: NodeNo },
+    Both(Sides),
+}
+
+fn next_of(
+    vars: &[u8],
+    lows: &[u16],
+    highs: &[u16],
+    kind: Kind,
+    by: Literals,
+    f: NodeNo,
+    g: NodeNo,
+) -> Next
+    requires { ⌜ SomeGiven (operationOf kind by) (by .positive) (now vars) (now lows) (now highs) (f .0) (g .0) ⌝ }
+    ensures { λ r. ⌜ ((heads links : List ℕ) (count : ℕ) →
+        let before = tableOf (now (vars .entry)) (now (lows .entry)) (now (highs .entry)) heads links count in
+        Given (operationOf kind by) (by .positive) before (f .0) (g .0) →
+        NextSays (operationOf kind by) (by .positive) before (f .0) (g .0) r) ⌝ }
+{
+    match terminal(operation_of(kind, by), f, g) {
+        Found::At(k) => Next::Told(k),
+        Found::Nothing => {
+            if is_beyond(vars, kind, by, f) {
+                return Next::Told(f);
+            }
+            let s = sides_of(vars, lows, highs, f, g);
+            match descent_of(operation_of(kind, by), s) {
+                Descent::One { f: a, g: b } => Next::One { f: a, g: b },
+                Descent::Both(s) => Next::Both(s),
+            }
+        }
+    }
+}
+
+// What the steps of one side lead to: a node that is told, or two sides.
+pub enum Ahead {
+    Told(NodeNo),
+    Both(Sides),
+}
+
+// Goes on from two nodes while one side makes the result. No such step is held in the memo; there are at most 64 in a row.
+pub fn forced_down(
+    vars: &[u8],
+    lows: &[u16],
+    highs: &[u16],
+    kind: Kind,
+    by: Literals,
+    first: NodeNo,
+    second: NodeNo,
+) -> Ahead
+    requires { ⌜ SomeGiven (operationOf kind by) (by .positive) (now vars) (now lows) (now highs) (first .0) (second .0) ⌝ }
+    ensures { λ r. ⌜ ((heads links : List ℕ) (count : ℕ) →
+        let before = tableOf (now (vars .entry)) (now (lows .entry)) (now (highs .entry)) heads links count in
+        Given (operationOf kind by) (by .positive) before (first .0) (second .0) →
+        AheadSays (operationOf kind by) (by .positive) before (first .0) (second .0) r) ⌝ }
+{
+    let mut f = first;
+    let mut g = second;
+    loop {
+        match next_of(vars, lows, highs, kind, by, f, g) {
+            Next::Told(k) => {
+                return Ahead::Told(k);
+            }
+            Next::One { f: a, g: b } => {
+                f = a;
+                g = b;
+            }
+            Next::Both(s) => {
+                return Ahead::Both(s);
+            }
+        }
     }
 }

@@ -65,7 +65,8 @@ returns-3 c =
     let a = s .args in
     let y = c .told-by .ensures in
     subst (Tells (a .memo .now) (a .f .0) (a .g .0)) (sym (y .0))
-    (cell-tells (a .memo .now) (cell-of-from-return-3 c .cell-of .result) (a .f .0) (a .g .0) (omega (arith, else3-from-return-3 c .if3 .left)) (y .1) (ltb-false _ _ (else4-from-return-3 c .if4 .left)))
+    (cell-tells (a .memo .now) (cell-of-from-return-3 c .cell-of .result) (a .f .0) (a .g .0)
+    (omega (arith, else3-from-return-3 c .if3 .left)) (y .1) (ltb-false _ _ (else4-from-return-3 c .if4 .left)))
 
 pub memo-find-spec : {M : Type 1} → statement M
 memo-find-spec =

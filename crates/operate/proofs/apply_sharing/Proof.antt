@@ -21,8 +21,11 @@ module _ (c : tie.After-by-of) where
   start-from-by-of = start-from-kind-of kind-of-from-by-of
 
 module _ (c : tie.After-work-out-arg6) where
+  abbrev mixed-from-work-out-call : tie.After-mixed
+  mixed-from-work-out-call = c .before .before .before .before .before .before
+
   abbrev by-of-from-work-out-call : tie.After-by-of
-  by-of-from-work-out-call = c .before .before .before .before .before .before
+  by-of-from-work-out-call = mixed-from-work-out-call .before
 
   abbrev start-from-work-out-call : tie.Start
   start-from-work-out-call = start-from-by-of by-of-from-work-out-call
@@ -49,6 +52,9 @@ kind-of-requires c κs = search needs
 by-of-requires : tie.Need-by-of-requires
 by-of-requires c κs = search needs
 
+mixed-requires : tie.Need-mixed-requires
+mixed-requires c κs = search needs
+
 work-out-requires : tie.Need-work-out-requires
 work-out-requires c κs =
     let a = start-from-work-out-call c .args in
@@ -57,6 +63,7 @@ work-out-requires c κs =
       subst (λ (op : Operation). Ready op (a .memo .now) before (a .f .0) (a .g .0)) (sym (same b)) (start-from-work-out-call c .pre .0),
       shared-again (a .op) (a .shared) _ _ (kind-of-from-by-of b .kind-of .ensures) (b .by-of .ensures) before (a .f .0) (a .g .0)
           (start-from-work-out-call c .pre .1),
+      mixed-from-work-out-call c .mixed .ensures,
     )
 
 same-length : tie.Need-same-length
@@ -94,6 +101,7 @@ apply-sharing-spec =
     (tie.spec
     kind-of-requires
     by-of-requires
+    mixed-requires
     work-out-requires
     same-length
     same-length-2

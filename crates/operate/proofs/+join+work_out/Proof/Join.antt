@@ -13,8 +13,8 @@ use Rattle.operate.specs.Inner.{operationOf, top, Shared, Ready, SidesRe
 use Rattle.operate.proofs.Results.{low-done, high-ready, high-shared, high-top, high-good, high-done, both-done, memo-joined}
 use Rattle.operate.proofs.OneSide.{SideLeft, outcome-same, SideKept, home-kept, side-same}
 use Rattle.operate.proofs.join.Reads as join
-use Rattle.operate.proofs.+descend+join+work_out.Lts-join as join-lts
-use Rattle.operate.proofs.+descend+join+work_out.Proof.Measures.{join-at, join-callees}
+use Rattle.operate.proofs.+join+work_out.Lts-join as join-lts
+use Rattle.operate.proofs.+join+work_out.Proof.Measures.{join-at, join-callees}
 
 -- where join starts
 module _ {t : ℕ} (s : join-lts.Start (join-callees t) (join-at t) join.Post) where
@@ -43,20 +43,27 @@ module _ {t : ℕ} (s : join-lts.Start (join-callees t) (join-at t) join.Post) w
   j-high-shared : Shared j-op (s .args .by .positive) j-table (j-sides .f1 .0) (j-sides .g1 .0)
   j-high-shared = s .pre .1 .2
 
-  j-measure : 3 * (65 - j-sides .x) ≡ t
+  j-measure : 2 * (65 - j-sides .x) ≡ t
   j-measure = s .pre .0
 
 -- The ways back, written by ways.py: TO-from-FROM leads from the place FROM of the code to the place TO before it.
+module _ {t : ℕ} (c : join-lts.After-mixed (join-callees t) (join-at t) join.Post) where
+  abbrev start-from-mixed : join-lts.Start (join-callees t) (join-at t) join.Post
+  start-from-mixed = c .before .before .before .before .before .before .before
+
 module _ {t : ℕ} (c : join-lts.After-memo-home-arg (join-callees t) (join-at t) join.Post) where
+  abbrev mixed-from-memo-home-call : join-lts.After-mixed (join-callees t) (join-at t) join.Post
+  mixed-from-memo-home-call = c .before
+
   abbrev start-from-memo-home-call : join-lts.Start (join-callees t) (join-at t) join.Post
-  start-from-memo-home-call = c .before .before .before .before .before .before .before
+  start-from-memo-home-call = start-from-mixed mixed-from-memo-home-call
 
 module _ {t : ℕ} (c : join-lts.At-match-came (join-callees t) (join-at t) join.Post) where
   abbrev memo-home-from-at-match-came : join-lts.After-memo-home (join-callees t) (join-at t) join.Post
   memo-home-from-at-match-came = c .before
 
   abbrev start-from-at-match-came : join-lts.Start (join-callees t) (join-at t) join.Post
-  start-from-at-match-came = start-from-memo-home-call (memo-home-from-at-match-came .before)
+  start-from-at-match-came = start-from-mixed (memo-home-from-at-match-came .before .before)
 
 module _ {t : ℕ} (c : join-lts.Else1 (join-callees t) (join-at t) join.Post) where
   abbrev at-match-came-from-else1 : join-lts.At-match-came (join-callees t) (join-at t) join.Post
@@ -69,23 +76,26 @@ module _ {t : ℕ} (c : join-lts.Then1 (join-callees t) (join-at t) join.Post) w
   abbrev start-from-then1 : join-lts.Start (join-callees t) (join-at t) join.Post
   start-from-then1 = start-from-at-match-came at-match-came-from-then1
 
-module _ {t : ℕ} (c : join-lts.After-memo-home-arg2 (join-callees t) (join-at t) join.Post) where
-  abbrev at-match-came-from-memo-home-call-2 : join-lts.At-match-came (join-callees t) (join-at t) join.Post
-  at-match-came-from-memo-home-call-2 = at-match-came-from-else1 (c .before)
+module _ {t : ℕ} (c : join-lts.After-mixed2 (join-callees t) (join-at t) join.Post) where
+  abbrev at-match-came-from-mixed2 : join-lts.At-match-came (join-callees t) (join-at t) join.Post
+  at-match-came-from-mixed2 = at-match-came-from-else1 (c .before)
 
-module _ {t : ℕ} (c : join-lts.After-memo-home2 (join-callees t) (join-at t) join.Post) where
-  abbrev at-match-came-from-memo-home2 : join-lts.At-match-came (join-callees t) (join-at t) join.Post
-  at-match-came-from-memo-home2 = at-match-came-from-else1 (c .before .before)
+module _ {t : ℕ} (c : join-lts.After-memo-home-arg2 (join-callees t) (join-at t) join.Post) where
+  abbrev mixed2-from-memo-home-call-2 : join-lts.After-mixed2 (join-callees t) (join-at t) join.Post
+  mixed2-from-memo-home-call-2 = c .before
+
+  abbrev at-match-came-from-memo-home-call-2 : join-lts.At-match-came (join-callees t) (join-at t) join.Post
+  at-match-came-from-memo-home-call-2 = at-match-came-from-mixed2 mixed2-from-memo-home-call-2
 
 module _ {t : ℕ} (c : join-lts.At-match2-came (join-callees t) (join-at t) join.Post) where
   abbrev memo-home2-from-at-match2-came : join-lts.After-memo-home2 (join-callees t) (join-at t) join.Post
   memo-home2-from-at-match2-came = c .before
 
   abbrev else1-from-at-match2-came : join-lts.Else1 (join-callees t) (join-at t) join.Post
-  else1-from-at-match2-came = memo-home2-from-at-match2-came .before .before
+  else1-from-at-match2-came = memo-home2-from-at-match2-came .before .before .before
 
   abbrev at-match-came-from-at-match2-came : join-lts.At-match-came (join-callees t) (join-at t) join.Post
-  at-match-came-from-at-match2-came = at-match-came-from-memo-home2 memo-home2-from-at-match2-came
+  at-match-came-from-at-match2-came = at-match-came-from-mixed2 (memo-home2-from-at-match2-came .before .before)
 
 module _ {t : ℕ} (c : join-lts.Then2 (join-callees t) (join-at t) join.Post) where
   abbrev at-match2-came-from-then2 : join-lts.At-match2-came (join-callees t) (join-at t) join.Post
@@ -104,8 +114,11 @@ module _ {t : ℕ} (c : join-lts.After-work-out-arg6 (join-callees t) (join-at t
   abbrev memo-home-from-work-out-call : join-lts.After-memo-home (join-callees t) (join-at t) join.Post
   memo-home-from-work-out-call = c .before .before .before .before .before .before .before .before
 
+  abbrev mixed-from-work-out-call : join-lts.After-mixed (join-callees t) (join-at t) join.Post
+  mixed-from-work-out-call = memo-home-from-work-out-call .before .before
+
   abbrev start-from-work-out-call : join-lts.Start (join-callees t) (join-at t) join.Post
-  start-from-work-out-call = start-from-memo-home-call (memo-home-from-work-out-call .before)
+  start-from-work-out-call = start-from-mixed mixed-from-work-out-call
 
 module _ {t : ℕ} (c : join-lts.After-put-arg5 (join-callees t) (join-at t) join.Post) where
   abbrev else2-from-put-call : join-lts.Else2 (join-callees t) (join-at t) join.Post
@@ -127,8 +140,11 @@ module _ {t : ℕ} (c : join-lts.After-work-out-arg12 (join-callees t) (join-at 
   abbrev memo-home2-from-work-out-call-2 : join-lts.After-memo-home2 (join-callees t) (join-at t) join.Post
   memo-home2-from-work-out-call-2 = c .before .before .before .before .before .before .before .before
 
+  abbrev mixed2-from-work-out-call-2 : join-lts.After-mixed2 (join-callees t) (join-at t) join.Post
+  mixed2-from-work-out-call-2 = memo-home2-from-work-out-call-2 .before .before
+
   abbrev at-match-came-from-work-out-call-2 : join-lts.At-match-came (join-callees t) (join-at t) join.Post
-  at-match-came-from-work-out-call-2 = at-match-came-from-memo-home2 memo-home2-from-work-out-call-2
+  at-match-came-from-work-out-call-2 = at-match-came-from-mixed2 mixed2-from-work-out-call-2
 
   abbrev start-from-work-out-call-2 : join-lts.Start (join-callees t) (join-at t) join.Post
   start-from-work-out-call-2 = start-from-at-match-came at-match-came-from-work-out-call-2
@@ -230,9 +246,13 @@ module _ {t : ℕ} (n : join-lts.At-match2-came (join-callees t) (join-at t) joi
   left₂ : SideLeft (j-op (js jm)) (out₁ jm .table) (j-sides (js jm) .f1 .0) (j-sides (js jm) .g1 .0) out₂
   left₂ = kept₂ .left
 
+mixed-requires : (t : ℕ) → join-lts.Need-mixed-requires (join-callees t) (join-at t) join.Post
+mixed-requires t c κs =
+    search needs
+
 memo-home-requires : (t : ℕ) → join-lts.Need-memo-home-requires (join-callees t) (join-at t) join.Post
 memo-home-requires t c κs =
-    j-ready (start-from-memo-home-call c) .right .shaped
+    (j-ready (start-from-memo-home-call c) .right .shaped, mixed-from-memo-home-call c .mixed .ensures)
 
 enum-known-r : (t : ℕ) → join-lts.Need-enum-known-r (join-callees t) (join-at t) join.Post
 enum-known-r t c =
@@ -246,7 +266,7 @@ work-out-requires : (t : ℕ) → join-lts.Need-work-out-requires (join-callees 
 work-out-requires t c κs =
     let s = start-from-work-out-call c in (
       omega (arith, j-measure s, j-ready s .operands .low-after, j-ready s .operands .most),
-      (j-low-ready s, j-low-shared s),
+      (j-low-ready s, j-low-shared s, mixed-from-work-out-call c .mixed .ensures),
     )
 
 same-length : (t : ℕ) → join-lts.Need-same-length (join-callees t) (join-at t) join.Post
@@ -279,9 +299,13 @@ returns t c =
     let m = at-match-came-from-then1 c in
     (low-done (j-op s) (j-table s) (j-sides s) (j-ready s .operands) (out₁ m) (left₁ m .is) (c .if1 .taken), kept₁ m .right)
 
+mixed-requires-2 : (t : ℕ) → join-lts.Need-mixed-requires-2 (join-callees t) (join-at t) join.Post
+mixed-requires-2 t c κs =
+    search needs
+
 memo-home-requires-2 : (t : ℕ) → join-lts.Need-memo-home-requires-2 (join-callees t) (join-at t) join.Post
 memo-home-requires-2 t c κs =
-    kept₁ (at-match-came-from-memo-home-call-2 c) .right .shaped
+    (kept₁ (at-match-came-from-memo-home-call-2 c) .right .shaped, mixed2-from-memo-home-call-2 c .mixed2 .ensures)
 
 enum-known-r-2 : (t : ℕ) → join-lts.Need-enum-known-r-2 (join-callees t) (join-at t) join.Post
 enum-known-r-2 t c =
@@ -295,7 +319,7 @@ work-out-requires-2 : (t : ℕ) → join-lts.Need-work-out-requires-2 (join-call
 work-out-requires-2 t c κs =
     let s = start-from-work-out-call-2 c in
     let m = at-match-came-from-work-out-call-2 c in
-    (omega (arith, j-measure s, after₁ m, j-ready s .operands .most), (ready₁ m, shared₁ m))
+    (omega (arith, j-measure s, after₁ m, j-ready s .operands .most), (ready₁ m, shared₁ m, mixed2-from-work-out-call-2 c .mixed2 .ensures))
 
 same-length-7 : (t : ℕ) → join-lts.Need-same-length-7 (join-callees t) (join-at t) join.Post
 same-length-7 t c =
@@ -384,6 +408,7 @@ returns-3 t c =
 pub join-met : {M : Type 1} (t : ℕ) → join-lts.Closed (join-callees t) (join-at t) join.Post M
 join-met t =
     join-lts.spec (join-callees t) (join-at t) join.Post
+    (mixed-requires t)
     (memo-home-requires t)
     (enum-known-r t)
     (enum-told t)
@@ -395,6 +420,7 @@ join-met t =
     (same-length-5 t)
     (same-length-6 t)
     (returns t)
+    (mixed-requires-2 t)
     (memo-home-requires-2 t)
     (enum-known-r-2 t)
     (enum-told-2 t)
