@@ -82,16 +82,32 @@ module _ (c : tie.After-supports-of-arg11) where
   by-negation-from-supports-of-call-2 = by-negation-from-else1 else1-from-supports-of-call-2
 
 module _ (c : tie.After-supports-of2) where
+  abbrev else1-from-supports-of2 : tie.Else1
+  else1-from-supports-of2 = else1-from-supports-of-call-2 (c .before)
+
   abbrev by-negation-from-supports-of2 : tie.After-by-negation
   by-negation-from-supports-of2 = by-negation-from-supports-of-call-2 (c .before)
 
+module _ (c : tie.After-look-arg8) where
+  abbrev supports-of2-from-look-call : tie.After-supports-of2
+  supports-of2-from-look-call = c .before .before .before .before .before .before .before .before .before .before .before .before
+
+  abbrev else1-from-look-call : tie.Else1
+  else1-from-look-call = else1-from-supports-of2 supports-of2-from-look-call
+
+  abbrev by-negation-from-look-call : tie.After-by-negation
+  by-negation-from-look-call = by-negation-from-else1 else1-from-look-call
+
 module _ (c : tie.After-turns-arg12) where
+  abbrev look-from-turns-call : tie.After-look
+  look-from-turns-call = c .before .before .before .before .before .before .before .before .before .before .before .before .before .before
+      .before .before
+
   abbrev supports-of2-from-turns-call : tie.After-supports-of2
-  supports-of2-from-turns-call = c .before .before .before .before .before .before .before .before .before .before .before .before .before
-      .before .before .before
+  supports-of2-from-turns-call = supports-of2-from-look-call (look-from-turns-call .before)
 
   abbrev else1-from-turns-call : tie.Else1
-  else1-from-turns-call = else1-from-supports-of-call-2 (supports-of2-from-turns-call .before)
+  else1-from-turns-call = else1-from-supports-of2 supports-of2-from-turns-call
 
   abbrev by-negation-from-turns-call : tie.After-by-negation
   by-negation-from-turns-call = by-negation-from-else1 else1-from-turns-call
@@ -99,16 +115,19 @@ module _ (c : tie.After-turns-arg12) where
   abbrev support-from-from-turns-call : tie.After-support-from
   support-from-from-turns-call = support-from-from-by-negation by-negation-from-turns-call
 
-module _ (c : tie.After-slice-known34) where
+module _ (c : tie.After-slice-known36) where
   abbrev turns-from-return-2 : tie.After-turns
   turns-from-return-2 = c .before .before .before .before .before .before .before .before .before .before .before .before .before .before
       .before .before .before .before
 
+  abbrev look-from-return-2 : tie.After-look
+  look-from-return-2 = look-from-turns-call (turns-from-return-2 .before)
+
   abbrev supports-of2-from-return-2 : tie.After-supports-of2
-  supports-of2-from-return-2 = supports-of2-from-turns-call (turns-from-return-2 .before)
+  supports-of2-from-return-2 = supports-of2-from-look-call (look-from-return-2 .before)
 
   abbrev else1-from-return-2 : tie.Else1
-  else1-from-return-2 = else1-from-supports-of-call-2 (supports-of2-from-return-2 .before)
+  else1-from-return-2 = else1-from-supports-of2 supports-of2-from-return-2
 
   abbrev by-negation-from-return-2 : tie.After-by-negation
   by-negation-from-return-2 = by-negation-from-else1 else1-from-return-2
@@ -275,15 +294,25 @@ supports-of-requires-2 c κs =
           ∙ sym (first-length a),
     )
 
+look-requires : tie.Need-look-requires
+look-requires c κs =
+    let a = by-negation-from-look-call c in
+    let s = start a in
+    let w = supports-of2-from-look-call c .supports-of2 in (
+      first-ready a (else1-from-look-call c .if1 .left) (w .last .1 .1 .1 .0) (w .kept .1 .1 .1 .0 ∙ memo-length a),
+      s .pre .0 .1 ∙ ap unmarked (sym (a .by-negation .kept .0)),
+    )
+
 turns-requires : tie.Need-turns-requires
 turns-requires c κs =
     let a = by-negation-from-turns-call c in
     let s = start a in
     let e = else1-from-turns-call c .if1 .left in
+    let l = look-from-turns-call c .look in
     let w = supports-of2-from-turns-call c .supports-of2 in (
       (
-        first-ready a e (w .last .1 .1 .1 .0) (w .kept .1 .1 .1 .0 ∙ memo-length a),
-        s .pre .0 .1 ∙ ap unmarked (sym (a .by-negation .kept .0)),
+        first-ready a e (l .last .1 .1 .1 .1 .1 .0) (l .kept .1 .1 .1 .1 .1 .0 ∙ w .kept .1 .1 .1 .0 ∙ memo-length a),
+        l .ensures .1,
         s .pre .0 .3 ∙ sym (first-length a),
         inside-more (before s) (table₁ a) (s .args .members .now) (by-negation a false e .extended) (s .pre .0 .0 .ready .inside),
         s .pre .0 .4,
@@ -295,6 +324,7 @@ turns-requires c κs =
         w .kept .1 .1 .1 .1 .1 .0 ∙ a .by-negation .kept .1 .1 .1 .1 .1 .1 .1 .1 .1 .0 ∙ s .pre .1 .1 ∙ sym (first-length a),
         firstwords (supports-of2-from-turns-call c),
         s .pre .1 .2 ∙ sym (first-length a),
+        l .ensures .0,
       ),
     )
 
@@ -320,12 +350,13 @@ same-length-14 c =
 
 same-length-15 : tie.Need-same-length-15
 same-length-15 c =
-    turns-from-return-2 c .turns .kept .1 .1 .1 .1 .1 .0 ∙ supports-of2-from-return-2 c .supports-of2 .kept .1 .1 .1 .0
+    turns-from-return-2 c .turns .kept .1 .1 .1 .1 .1 .0 ∙ look-from-return-2 c .look .kept .1 .1 .1 .1 .1 .0
+    ∙ supports-of2-from-return-2 c .supports-of2 .kept .1 .1 .1 .0
     ∙ memo-length (by-negation-from-return-2 c)
 
 same-length-16 : tie.Need-same-length-16
 same-length-16 c =
-    turns-from-return-2 c .turns .kept .1 .1 .1 .1 .1 .1 .0
+    turns-from-return-2 c .turns .kept .1 .1 .1 .1 .1 .1 .0 ∙ look-from-return-2 c .look .kept .1 .1 .1 .1 .1 .1 .0
 
 same-length-17 : tie.Need-same-length-17
 same-length-17 c =
@@ -379,6 +410,7 @@ pr-spec =
     same-length-9
     returns
     supports-of-requires-2
+    look-requires
     turns-requires
     same-length-10
     same-length-11

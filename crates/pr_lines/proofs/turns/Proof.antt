@@ -16,6 +16,7 @@ use Rattle.table.proofs.Outcomes.{undone}
 use Rattle.table.specs.Lists.{diagramsOf}
 use Rattle.conflict.specs.Marks.{unmarked}
 use Rattle.table.proofs.Extended.{extended-longer}
+use Rattle.quiet.proofs.Known.{looked-again}
 use Rattle.judge.specs.Lines.{LineSays}
 use Rattle.judge.proofs.Worded.{member-worded, worded-again}
 use Rattle.judge.proofs.Ready.{again-ready}
@@ -27,7 +28,7 @@ use Rattle.pr_lines.proofs.turns.Statement.{statement}
 use Rattle.pr_lines.proofs.turns.Tie as tie
 
 abbrev Inv-loop : tie.InvT-loop
-Inv-loop vars₀ lows₀ highs₀ heads₀ links₀ memo₀ marks₀ members memberwords first firstwords second₀ secondwords₀ count witness rounds₀ peak₀
+Inv-loop vars₀ lows₀ highs₀ heads₀ links₀ memo₀ marks₀ members memberwords first firstwords second₀ secondwords₀ count witness looked rounds₀ peak₀
     judged₀ i₀ vars lows highs heads links memo marks second secondwords rounds peak judged i =
     (tableOf vars lows highs heads links count ≡ tableOf vars₀ lows₀ highs₀ heads₀ links₀ count)
     × Turning (tableOf vars₀ lows₀ highs₀ heads₀ links₀ count) first members (witness .positive) (witness .negative) i rounds peak
@@ -39,7 +40,7 @@ Inv-loop vars₀ lows₀ highs₀ heads₀ links₀ memo₀ marks₀ members mem
     × (length judged ≡ 4096)
 
 abbrev μ-loop : tie.MeasureT-loop
-μ-loop vars₀ lows₀ highs₀ heads₀ links₀ memo₀ marks₀ members memberwords first firstwords second₀ secondwords₀ count witness rounds₀ peak₀
+μ-loop vars₀ lows₀ highs₀ heads₀ links₀ memo₀ marks₀ members memberwords first firstwords second₀ secondwords₀ count witness looked rounds₀ peak₀
     judged₀ i₀ vars lows highs heads links memo marks second secondwords rounds peak judged i =
     length members - i
 
@@ -69,39 +70,39 @@ module _ (c : tie.After-loop Inv-loop μ-loop) where
   start-from-return-3 = start-from-at-loop (c .before)
 
 module _ (c : tie.After-shared-slice-known6 Inv-loop μ-loop) where
-  abbrev in-loop-from-turn-call : tie.In-loop Inv-loop μ-loop
-  in-loop-from-turn-call = c .before .before .before .before .before .before .before .before .before .before .before
+  abbrev in-loop-from-turn-known-call : tie.In-loop Inv-loop μ-loop
+  in-loop-from-turn-known-call = c .before .before .before .before .before .before .before .before .before .before .before
 
-  abbrev at-loop-from-turn-call : tie.At-loop Inv-loop μ-loop
-  at-loop-from-turn-call = in-loop-from-turn-call .before
+  abbrev at-loop-from-turn-known-call : tie.At-loop Inv-loop μ-loop
+  at-loop-from-turn-known-call = in-loop-from-turn-known-call .before
 
-  abbrev start-from-turn-call : tie.Start Inv-loop μ-loop
-  start-from-turn-call = start-from-at-loop at-loop-from-turn-call
+  abbrev start-from-turn-known-call : tie.Start Inv-loop μ-loop
+  start-from-turn-known-call = start-from-at-loop at-loop-from-turn-known-call
 
-module _ (c : tie.After-turn Inv-loop μ-loop) where
-  abbrev in-loop-from-turn : tie.In-loop Inv-loop μ-loop
-  in-loop-from-turn = in-loop-from-turn-call (c .before)
+module _ (c : tie.After-turn-known Inv-loop μ-loop) where
+  abbrev in-loop-from-turn-known : tie.In-loop Inv-loop μ-loop
+  in-loop-from-turn-known = in-loop-from-turn-known-call (c .before)
 
-  abbrev at-loop-from-turn : tie.At-loop Inv-loop μ-loop
-  at-loop-from-turn = in-loop-from-turn .before
+  abbrev at-loop-from-turn-known : tie.At-loop Inv-loop μ-loop
+  at-loop-from-turn-known = in-loop-from-turn-known .before
 
-  abbrev start-from-turn : tie.Start Inv-loop μ-loop
-  start-from-turn = start-from-at-loop at-loop-from-turn
+  abbrev start-from-turn-known : tie.Start Inv-loop μ-loop
+  start-from-turn-known = start-from-at-loop at-loop-from-turn-known
 
 module _ (c : tie.After-greater Inv-loop μ-loop) where
-  abbrev turn-from-greater : tie.After-turn Inv-loop μ-loop
-  turn-from-greater = c .before .before .before .before .before .before .before .before .before .before .before .before .before .before
-      .before .before .before .before .before
+  abbrev turn-known-from-greater : tie.After-turn-known Inv-loop μ-loop
+  turn-known-from-greater = c .before .before .before .before .before .before .before .before .before .before .before .before .before
+      .before .before .before .before .before .before
 
 module _ (c : tie.Then1 Inv-loop μ-loop) where
   abbrev greater-from-then1 : tie.After-greater Inv-loop μ-loop
   greater-from-then1 = c .before
 
-  abbrev turn-from-then1 : tie.After-turn Inv-loop μ-loop
-  turn-from-then1 = turn-from-greater greater-from-then1
+  abbrev turn-known-from-then1 : tie.After-turn-known Inv-loop μ-loop
+  turn-known-from-then1 = turn-known-from-greater greater-from-then1
 
   abbrev at-loop-from-then1 : tie.At-loop Inv-loop μ-loop
-  at-loop-from-then1 = at-loop-from-turn turn-from-then1
+  at-loop-from-then1 = at-loop-from-turn-known turn-known-from-then1
 
   abbrev start-from-then1 : tie.Start Inv-loop μ-loop
   start-from-then1 = start-from-at-loop at-loop-from-then1
@@ -110,26 +111,26 @@ module _ (c : tie.After-drop-to-arg5 Inv-loop μ-loop) where
   abbrev else1-from-drop-to-call : tie.Else1 Inv-loop μ-loop
   else1-from-drop-to-call = c .before .before .before .before .before
 
-  abbrev turn-from-drop-to-call : tie.After-turn Inv-loop μ-loop
-  turn-from-drop-to-call = turn-from-greater (else1-from-drop-to-call .before)
+  abbrev turn-known-from-drop-to-call : tie.After-turn-known Inv-loop μ-loop
+  turn-known-from-drop-to-call = turn-known-from-greater (else1-from-drop-to-call .before)
 
 module _ (c : tie.After-drop-to Inv-loop μ-loop) where
-  abbrev turn-from-drop-to : tie.After-turn Inv-loop μ-loop
-  turn-from-drop-to = turn-from-drop-to-call (c .before)
+  abbrev turn-known-from-drop-to : tie.After-turn-known Inv-loop μ-loop
+  turn-known-from-drop-to = turn-known-from-drop-to-call (c .before)
 
   abbrev start-from-drop-to : tie.Start Inv-loop μ-loop
-  start-from-drop-to = start-from-turn turn-from-drop-to
+  start-from-drop-to = start-from-turn-known turn-known-from-drop-to
 
 module _ (c : tie.After-struct-known Inv-loop μ-loop) where
   abbrev drop-to-from-add-rounds : tie.After-drop-to Inv-loop μ-loop
   drop-to-from-add-rounds = c .before .before .before .before .before .before .before .before .before .before .before
 
-  abbrev turn-from-add-rounds : tie.After-turn Inv-loop μ-loop
-  turn-from-add-rounds = turn-from-drop-to drop-to-from-add-rounds
+  abbrev turn-known-from-add-rounds : tie.After-turn-known Inv-loop μ-loop
+  turn-known-from-add-rounds = turn-known-from-drop-to drop-to-from-add-rounds
 
 module _ (c : tie.Else2 Inv-loop μ-loop) where
-  abbrev turn-from-else2 : tie.After-turn Inv-loop μ-loop
-  turn-from-else2 = turn-from-add-rounds (c .before .before)
+  abbrev turn-known-from-else2 : tie.After-turn-known Inv-loop μ-loop
+  turn-known-from-else2 = turn-known-from-add-rounds (c .before .before)
 
 module _ (c : tie.Then2 Inv-loop μ-loop) where
   abbrev drop-to-from-then2 : tie.After-drop-to Inv-loop μ-loop
@@ -141,31 +142,31 @@ module _ (c : tie.Then2 Inv-loop μ-loop) where
   abbrev greater-from-then2 : tie.After-greater Inv-loop μ-loop
   greater-from-then2 = else1-from-then2 .before
 
-  abbrev turn-from-then2 : tie.After-turn Inv-loop μ-loop
-  turn-from-then2 = turn-from-greater greater-from-then2
+  abbrev turn-known-from-then2 : tie.After-turn-known Inv-loop μ-loop
+  turn-known-from-then2 = turn-known-from-greater greater-from-then2
 
   abbrev at-loop-from-then2 : tie.At-loop Inv-loop μ-loop
-  at-loop-from-then2 = at-loop-from-turn turn-from-then2
+  at-loop-from-then2 = at-loop-from-turn-known turn-known-from-then2
 
   abbrev start-from-then2 : tie.Start Inv-loop μ-loop
   start-from-then2 = start-from-at-loop at-loop-from-then2
 
 module _ (c : tie.After-judged Inv-loop μ-loop) where
-  abbrev turn-from-store-call : tie.After-turn Inv-loop μ-loop
-  turn-from-store-call = turn-from-else2 (c .before)
+  abbrev turn-known-from-store-call : tie.After-turn-known Inv-loop μ-loop
+  turn-known-from-store-call = turn-known-from-else2 (c .before)
 
   abbrev at-loop-from-store-call : tie.At-loop Inv-loop μ-loop
-  at-loop-from-store-call = at-loop-from-turn turn-from-store-call
+  at-loop-from-store-call = at-loop-from-turn-known turn-known-from-store-call
 
 module _ (c : tie.After-judged3 Inv-loop μ-loop) where
   abbrev store-from-pass-stored-call : tie.After-store Inv-loop μ-loop
   store-from-pass-stored-call = c .before .before
 
-  abbrev turn-from-pass-stored-call : tie.After-turn Inv-loop μ-loop
-  turn-from-pass-stored-call = turn-from-else2 (store-from-pass-stored-call .before .before)
+  abbrev turn-known-from-pass-stored-call : tie.After-turn-known Inv-loop μ-loop
+  turn-known-from-pass-stored-call = turn-known-from-else2 (store-from-pass-stored-call .before .before)
 
   abbrev at-loop-from-pass-stored-call : tie.At-loop Inv-loop μ-loop
-  at-loop-from-pass-stored-call = at-loop-from-turn turn-from-pass-stored-call
+  at-loop-from-pass-stored-call = at-loop-from-turn-known turn-known-from-pass-stored-call
 
 module _ (c : tie.After-pass-stored Inv-loop μ-loop) where
   abbrev store-from-loop-again : tie.After-store Inv-loop μ-loop
@@ -183,40 +184,40 @@ module _ (c : tie.After-pass-stored Inv-loop μ-loop) where
   abbrev greater-from-loop-again : tie.After-greater Inv-loop μ-loop
   greater-from-loop-again = else1-from-loop-again .before
 
-  abbrev turn-from-loop-again : tie.After-turn Inv-loop μ-loop
-  turn-from-loop-again = turn-from-greater greater-from-loop-again
+  abbrev turn-known-from-loop-again : tie.After-turn-known Inv-loop μ-loop
+  turn-known-from-loop-again = turn-known-from-greater greater-from-loop-again
 
 -- what a turn leaves
-module _ (a : tie.After-turn Inv-loop μ-loop) where
+module _ (a : tie.After-turn-known Inv-loop μ-loop) where
   abbrev start : tie.Start Inv-loop μ-loop
-  start = start-from-turn a
+  start = start-from-turn-known a
 
   abbrev reached : tie.At-loop Inv-loop μ-loop
-  reached = at-loop-from-turn a
+  reached = at-loop-from-turn-known a
 
   abbrev table₁ : Table
-  table₁ = tableOf (a .turn .last .0) (a .turn .last .1 .0) (a .turn .last .1 .1 .0) (a .turn .last .1 .1 .1 .0)
-      (a .turn .last .1 .1 .1 .1 .0) (a .turn .result .count)
+  table₁ = tableOf (a .turn-known .last .0) (a .turn-known .last .1 .0) (a .turn-known .last .1 .1 .0) (a .turn-known .last .1 .1 .1 .0)
+      (a .turn-known .last .1 .1 .1 .1 .0) (a .turn-known .result .count)
 
   abbrev member : ℕ
   member = getD (start .args .members .now) (reached .loop .i) 0
 
-  said : LineSays (before start) (line start (member ∷ [])) 64 (a .turn .result) table₁
+  said : LineSays (before start) (line start (member ∷ [])) 64 (a .turn-known .result) table₁
   said =
       subst (λ (t : Table). LineSays t (prTurns 64 (inWord (start .args .witness .positive)) (inWord (start .args .witness .negative))
-      (diagramsOf (nodesOf t) (start .args .first .now)) (diagramAt (nodesOf t) member ∷ [])) 64 (a .turn .result) table₁)
-      (reached .loop .inv .0) (a .turn .ensures .0)
+      (diagramsOf (nodesOf t) (start .args .first .now)) (diagramAt (nodesOf t) member ∷ [])) 64 (a .turn-known .result) table₁)
+      (reached .loop .inv .0) (a .turn-known .ensures .0)
 
   more : reached .loop .i < length (start .args .members .now)
-  more = in-loop-from-turn a .loop-test .taken
+  more = in-loop-from-turn-known a .loop-test .taken
 
-  unmarked-again : a .turn .last .1 .1 .1 .1 .1 .1 .0 ≡ unmarked (length (start .args .vars .now))
-  unmarked-again = a .turn .ensures .1 ∙ ap (λ (t : Table). unmarked (length (t .vars))) (reached .loop .inv .0)
+  unmarked-again : a .turn-known .last .1 .1 .1 .1 .1 .1 .0 ≡ unmarked (length (start .args .vars .now))
+  unmarked-again = a .turn-known .ensures .1 ∙ ap (λ (t : Table). unmarked (length (t .vars))) (reached .loop .inv .0)
 
 -- what dropping its nodes leaves
 module _ (d : tie.After-drop-to Inv-loop μ-loop) where
-  abbrev turned : tie.After-turn Inv-loop μ-loop
-  turned = turn-from-drop-to d
+  abbrev turned : tie.After-turn-known Inv-loop μ-loop
+  turned = turn-known-from-drop-to d
 
   abbrev begun : tie.Start Inv-loop μ-loop
   begun = start-from-drop-to d
@@ -240,27 +241,27 @@ loop-holds c =
       length-replicate {A = ℕ} 4096 0,
     )
 
-mul-t23 : tie.Need-mul-t23 Inv-loop μ-loop
-mul-t23 c =
+mul-t24 : tie.Need-mul-t24 Inv-loop μ-loop
+mul-t24 c =
     search needs
 
-shared-slice-read-t26 : tie.Need-shared-slice-read-t26 Inv-loop μ-loop
-shared-slice-read-t26 c =
+shared-slice-read-t27 : tie.Need-shared-slice-read-t27 Inv-loop μ-loop
+shared-slice-read-t27 c =
     search needs
 
-mul-turn : tie.Need-mul-turn Inv-loop μ-loop
-mul-turn c =
+mul-turn-known : tie.Need-mul-turn-known Inv-loop μ-loop
+mul-turn-known c =
     search needs
 
-shared-slice-read-turn : tie.Need-shared-slice-read-turn Inv-loop μ-loop
-shared-slice-read-turn c =
-    omega (arith, in-loop-from-turn-call c .loop-test .taken, start-from-turn-call c .pre .1 .0)
+shared-slice-read-turn-known : tie.Need-shared-slice-read-turn-known Inv-loop μ-loop
+shared-slice-read-turn-known c =
+    omega (arith, in-loop-from-turn-known-call c .loop-test .taken, start-from-turn-known-call c .pre .1 .0)
 
-turn-requires : tie.Need-turn-requires Inv-loop μ-loop
-turn-requires c κs =
-    let s = start-from-turn-call c in
-    let w = at-loop-from-turn-call c .loop in
-    let more = in-loop-from-turn-call c .loop-test .taken in (
+turn-known-requires : tie.Need-turn-known-requires Inv-loop μ-loop
+turn-known-requires c κs =
+    let s = start-from-turn-known-call c in
+    let w = at-loop-from-turn-known-call c .loop in
+    let more = in-loop-from-turn-known-call c .loop-test .taken in (
       (
         again-ready (before s) (tableOf (w .vars) (w .lows) (w .highs) (w .heads) (w .links) (s .args .count)) (s .args .first .now)
             (s .args .memo .now) (w .memo) (w .inv .0) (w .inv .3) (s .pre .0 .0),
@@ -275,6 +276,8 @@ turn-requires c κs =
             (member-worded (before s) (s .args .members .now) (s .args .memberwords .now) (s .args .first .now) (s .args .firstwords .now)
             (w .i) more (s .pre .1 .1) (s .pre .1 .2) (s .pre .1 .3)),
         w .inv .5 ∙ s .pre .1 .4,
+        looked-again (before s) (tableOf (w .vars) (w .lows) (w .highs) (w .heads) (w .links) (s .args .count)) (w .inv .0)
+            (s .args .first .now) (s .args .looked) (s .pre .1 .5),
       ),
     )
 
@@ -284,105 +287,105 @@ greater-requires c κs =
 
 same-length : tie.Need-same-length Inv-loop μ-loop
 same-length c =
-    turn-from-then1 c .turn .kept .0 ∙ ap (λ (t : Table). length (t .vars)) (at-loop-from-then1 c .loop .inv .0)
+    turn-known-from-then1 c .turn-known .kept .0 ∙ ap (λ (t : Table). length (t .vars)) (at-loop-from-then1 c .loop .inv .0)
 
 same-length-2 : tie.Need-same-length-2 Inv-loop μ-loop
 same-length-2 c =
-    turn-from-then1 c .turn .kept .1 .0 ∙ ap (λ (t : Table). length (t .lows)) (at-loop-from-then1 c .loop .inv .0)
+    turn-known-from-then1 c .turn-known .kept .1 .0 ∙ ap (λ (t : Table). length (t .lows)) (at-loop-from-then1 c .loop .inv .0)
 
 same-length-3 : tie.Need-same-length-3 Inv-loop μ-loop
 same-length-3 c =
-    turn-from-then1 c .turn .kept .1 .1 .0 ∙ ap (λ (t : Table). length (t .highs)) (at-loop-from-then1 c .loop .inv .0)
+    turn-known-from-then1 c .turn-known .kept .1 .1 .0 ∙ ap (λ (t : Table). length (t .highs)) (at-loop-from-then1 c .loop .inv .0)
 
 same-length-4 : tie.Need-same-length-4 Inv-loop μ-loop
 same-length-4 c =
-    turn-from-then1 c .turn .kept .1 .1 .1 .0 ∙ ap (λ (t : Table). length (t .heads)) (at-loop-from-then1 c .loop .inv .0)
+    turn-known-from-then1 c .turn-known .kept .1 .1 .1 .0 ∙ ap (λ (t : Table). length (t .heads)) (at-loop-from-then1 c .loop .inv .0)
 
 same-length-5 : tie.Need-same-length-5 Inv-loop μ-loop
 same-length-5 c =
-    turn-from-then1 c .turn .kept .1 .1 .1 .1 .0 ∙ ap (λ (t : Table). length (t .links)) (at-loop-from-then1 c .loop .inv .0)
+    turn-known-from-then1 c .turn-known .kept .1 .1 .1 .1 .0 ∙ ap (λ (t : Table). length (t .links)) (at-loop-from-then1 c .loop .inv .0)
 
 same-length-6 : tie.Need-same-length-6 Inv-loop μ-loop
 same-length-6 c =
-    turn-from-then1 c .turn .kept .1 .1 .1 .1 .1 .0 ∙ at-loop-from-then1 c .loop .inv .3
+    turn-known-from-then1 c .turn-known .kept .1 .1 .1 .1 .1 .0 ∙ at-loop-from-then1 c .loop .inv .3
 
 same-length-7 : tie.Need-same-length-7 Inv-loop μ-loop
 same-length-7 c =
-    turn-from-then1 c .turn .kept .1 .1 .1 .1 .1 .1 .0 ∙ ap length
+    turn-known-from-then1 c .turn-known .kept .1 .1 .1 .1 .1 .1 .0 ∙ ap length
     (at-loop-from-then1 c .loop .inv .2 ∙ sym (start-from-then1 c .pre .0 .1))
 
 same-length-8 : tie.Need-same-length-8 Inv-loop μ-loop
 same-length-8 c =
-    turn-from-then1 c .turn .kept .1 .1 .1 .1 .1 .1 .1 .1 .1 .0 ∙ at-loop-from-then1 c .loop .inv .4
+    turn-known-from-then1 c .turn-known .kept .1 .1 .1 .1 .1 .1 .1 .1 .1 .0 ∙ at-loop-from-then1 c .loop .inv .4
 
 same-length-9 : tie.Need-same-length-9 Inv-loop μ-loop
 same-length-9 c =
-    turn-from-then1 c .turn .kept .1 .1 .1 .1 .1 .1 .1 .1 .1 .1 .0 ∙ at-loop-from-then1 c .loop .inv .5
+    turn-known-from-then1 c .turn-known .kept .1 .1 .1 .1 .1 .1 .1 .1 .1 .1 .0 ∙ at-loop-from-then1 c .loop .inv .5
 
 returns : tie.Need-returns Inv-loop μ-loop
 returns c =
-    let a = turn-from-then1 c in
+    let a = turn-known-from-then1 c in
     let s = start a in
     let w = reached a .loop in (
       subst (λ (m : ℕ). LineSays (before s) (line s (s .args .members .now)) (64 * length (s .args .members .now))
-          (judgedAs true false 0 (a .turn .result .count) m) (table₁ a)) (sym (greater-from-then1 c .greater .ensures))
+          (judgedAs true false 0 (a .turn-known .result .count) m) (table₁ a)) (sym (greater-from-then1 c .greater .ensures))
           (turns-full (before s) (s .args .first .now) (s .args .members .now) (s .args .witness .positive) (s .args .witness .negative)
-          (good s) (w .i) (w .rounds) (w .peak) (w .inv .1) (more a) (a .turn .result) (table₁ a) (said a) (c .if1 .taken)
-          (a .turn .result .count)),
+          (good s) (w .i) (w .rounds) (w .peak) (w .inv .1) (more a) (a .turn-known .result) (table₁ a) (said a) (c .if1 .taken)
+          (a .turn-known .result .count)),
       unmarked-again a,
     )
 
 drop-to-requires : tie.Need-drop-to-requires Inv-loop μ-loop
 drop-to-requires c κs =
-    let a = turn-from-drop-to-call c in
+    let a = turn-known-from-drop-to-call c in
     (said a .extended .good, omega (arith, good (start a) .least, said a .extended .more), omega (arith, said a .extended .more))
 
 add-rounds : tie.Need-add-rounds Inv-loop μ-loop
 add-rounds c =
-    let a = turn-from-add-rounds c in
+    let a = turn-known-from-add-rounds c in
     omega (arith, said a .most, reached a .loop .inv .1 .most, more a, start a .pre .0 .4)
 
 same-length-10 : tie.Need-same-length-10 Inv-loop μ-loop
 same-length-10 c =
-    drop-to-from-then2 c .drop-to .kept .0 ∙ turn-from-then2 c .turn .kept .0
+    drop-to-from-then2 c .drop-to .kept .0 ∙ turn-known-from-then2 c .turn-known .kept .0
     ∙ ap (λ (t : Table). length (t .vars)) (at-loop-from-then2 c .loop .inv .0)
 
 same-length-11 : tie.Need-same-length-11 Inv-loop μ-loop
 same-length-11 c =
-    drop-to-from-then2 c .drop-to .kept .1 .0 ∙ turn-from-then2 c .turn .kept .1 .0
+    drop-to-from-then2 c .drop-to .kept .1 .0 ∙ turn-known-from-then2 c .turn-known .kept .1 .0
     ∙ ap (λ (t : Table). length (t .lows)) (at-loop-from-then2 c .loop .inv .0)
 
 same-length-12 : tie.Need-same-length-12 Inv-loop μ-loop
 same-length-12 c =
-    drop-to-from-then2 c .drop-to .kept .1 .1 .0 ∙ turn-from-then2 c .turn .kept .1 .1 .0
+    drop-to-from-then2 c .drop-to .kept .1 .1 .0 ∙ turn-known-from-then2 c .turn-known .kept .1 .1 .0
     ∙ ap (λ (t : Table). length (t .highs)) (at-loop-from-then2 c .loop .inv .0)
 
 same-length-13 : tie.Need-same-length-13 Inv-loop μ-loop
 same-length-13 c =
-    drop-to-from-then2 c .drop-to .kept .1 .1 .1 .0 ∙ turn-from-then2 c .turn .kept .1 .1 .1 .0
+    drop-to-from-then2 c .drop-to .kept .1 .1 .1 .0 ∙ turn-known-from-then2 c .turn-known .kept .1 .1 .1 .0
     ∙ ap (λ (t : Table). length (t .heads)) (at-loop-from-then2 c .loop .inv .0)
 
 same-length-14 : tie.Need-same-length-14 Inv-loop μ-loop
 same-length-14 c =
-    drop-to-from-then2 c .drop-to .kept .1 .1 .1 .1 .0 ∙ turn-from-then2 c .turn .kept .1 .1 .1 .1 .0
+    drop-to-from-then2 c .drop-to .kept .1 .1 .1 .1 .0 ∙ turn-known-from-then2 c .turn-known .kept .1 .1 .1 .1 .0
     ∙ ap (λ (t : Table). length (t .links)) (at-loop-from-then2 c .loop .inv .0)
 
 same-length-15 : tie.Need-same-length-15 Inv-loop μ-loop
 same-length-15 c =
-    turn-from-then2 c .turn .kept .1 .1 .1 .1 .1 .0 ∙ at-loop-from-then2 c .loop .inv .3
+    turn-known-from-then2 c .turn-known .kept .1 .1 .1 .1 .1 .0 ∙ at-loop-from-then2 c .loop .inv .3
 
 same-length-16 : tie.Need-same-length-16 Inv-loop μ-loop
 same-length-16 c =
-    turn-from-then2 c .turn .kept .1 .1 .1 .1 .1 .1 .0 ∙ ap length
+    turn-known-from-then2 c .turn-known .kept .1 .1 .1 .1 .1 .1 .0 ∙ ap length
     (at-loop-from-then2 c .loop .inv .2 ∙ sym (start-from-then2 c .pre .0 .1))
 
 same-length-17 : tie.Need-same-length-17 Inv-loop μ-loop
 same-length-17 c =
-    turn-from-then2 c .turn .kept .1 .1 .1 .1 .1 .1 .1 .1 .1 .0 ∙ at-loop-from-then2 c .loop .inv .4
+    turn-known-from-then2 c .turn-known .kept .1 .1 .1 .1 .1 .1 .1 .1 .1 .0 ∙ at-loop-from-then2 c .loop .inv .4
 
 same-length-18 : tie.Need-same-length-18 Inv-loop μ-loop
 same-length-18 c =
-    turn-from-then2 c .turn .kept .1 .1 .1 .1 .1 .1 .1 .1 .1 .1 .0 ∙ at-loop-from-then2 c .loop .inv .5
+    turn-known-from-then2 c .turn-known .kept .1 .1 .1 .1 .1 .1 .1 .1 .1 .1 .0 ∙ at-loop-from-then2 c .loop .inv .5
 
 returns-2 : tie.Need-returns-2 Inv-loop μ-loop
 returns-2 c =
@@ -391,14 +394,14 @@ returns-2 c =
     let s = start a in
     let w = reached a .loop in (
       subst (λ (t : Table). LineSays (before s) (line s (s .args .members .now)) (64 * length (s .args .members .now))
-          (judgedAs false false (w .rounds + a .turn .result .rounds) (s .args .count) (greater-from-then2 c .greater .result)) t)
+          (judgedAs false false (w .rounds + a .turn-known .result .rounds) (s .args .count) (greater-from-then2 c .greater .result)) t)
           (sym (as-before d))
           (subst (λ (m : ℕ). LineSays (before s) (line s (s .args .members .now)) (64 * length (s .args .members .now))
-          (judgedAs false false (w .rounds + a .turn .result .rounds) (s .args .count) m) (before s))
+          (judgedAs false false (w .rounds + a .turn-known .result .rounds) (s .args .count) m) (before s))
           (sym (greater-from-then2 c .greater .ensures))
           (turns-end (before s) (s .args .first .now) (s .args .members .now) (s .args .witness .positive) (s .args .witness .negative)
-          (good s) (w .i) (w .rounds) (w .peak) (w .inv .1) (more a) (a .turn .result) (table₁ a) (said a)
-          (else1-from-then2 c .if1 .left) (sym (not-not (a .turn .result .shown)) ∙ ap not (c .if2 .taken)))),
+          (good s) (w .i) (w .rounds) (w .peak) (w .inv .1) (more a) (a .turn-known .result) (table₁ a) (said a)
+          (else1-from-then2 c .if1 .left) (sym (not-not (a .turn-known .result .shown)) ∙ ap not (c .if2 .taken)))),
       unmarked-again a,
     )
 
@@ -408,7 +411,7 @@ slice-aggregate-store c =
 
 store-requires : tie.Need-store-requires Inv-loop μ-loop
 store-requires c κs =
-    (at-loop-from-store-call c .loop .inv .7, said (turn-from-store-call c) .most)
+    (at-loop-from-store-call c .loop .inv .7, said (turn-known-from-store-call c) .most)
 
 slice-aggregate-pass-stored : tie.Need-slice-aggregate-pass-stored Inv-loop μ-loop
 slice-aggregate-pass-stored c =
@@ -416,11 +419,11 @@ slice-aggregate-pass-stored c =
 
 add-pass-stored : tie.Need-add-pass-stored Inv-loop μ-loop
 add-pass-stored c =
-    let a = turn-from-pass-stored-call c in omega (arith, more a, start a .pre .0 .4)
+    let a = turn-known-from-pass-stored-call c in omega (arith, more a, start a .pre .0 .4)
 
 pass-stored-requires : tie.Need-pass-stored-requires Inv-loop μ-loop
 pass-stored-requires c κs =
-    let a = turn-from-pass-stored-call c in (
+    let a = turn-known-from-pass-stored-call c in (
       store-from-pass-stored-call c .store .kept .0 ∙ reached a .loop .inv .7,
       start a .pre .0 .4,
       omega (arith, said a .most, reached a .loop .inv .1 .most),
@@ -428,8 +431,8 @@ pass-stored-requires c κs =
 
 -- the members passed, and what is known of the turns judged
 module _ (c : tie.After-pass-stored Inv-loop μ-loop) where
-  abbrev last : tie.After-turn Inv-loop μ-loop
-  last = turn-from-loop-again c
+  abbrev last : tie.After-turn-known Inv-loop μ-loop
+  last = turn-known-from-loop-again c
 
   abbrev judged₁ : List ℕ
   judged₁ = store-from-loop-again c .store .last .0
@@ -439,52 +442,52 @@ module _ (c : tie.After-pass-stored Inv-loop μ-loop) where
       (start last .args .witness .negative)
 
   passes : Passes (start last .args .members .now) judged₁ (reached last .loop .i + 1)
-      (reached last .loop .rounds + last .turn .result .rounds) (c .pass-stored .result .place) (c .pass-stored .result .rounds)
+      (reached last .loop .rounds + last .turn-known .result .rounds) (c .pass-stored .result .place) (c .pass-stored .result .rounds)
   passes = c .pass-stored .ensures
 
-  conflicted : last .turn .result .shown ≡ true
-  conflicted = sym (not-not (last .turn .result .shown)) ∙ ap not (else2-from-loop-again c .if2 .left)
+  conflicted : last .turn-known .result .shown ≡ true
+  conflicted = sym (not-not (last .turn-known .result .shown)) ∙ ap not (else2-from-loop-again c .if2 .left)
 
-  known : Known judged₁ (Equal (max (reached last .loop .peak) (last .turn .result .peak)))
+  known : Known judged₁ (Equal (max (reached last .loop .peak) (last .turn-known .result .peak)))
   known =
       known-stored (reached last .loop .judged) judged₁ (Equal (reached last .loop .peak))
-      (Equal (max (reached last .loop .peak) (last .turn .result .peak))) (member last) (last .turn .result .rounds)
+      (Equal (max (reached last .loop .peak) (last .turn-known .result .peak))) (member last) (last .turn-known .result .rounds)
       (reached last .loop .inv .6)
       (turned-higher (before (start last)) (start last .args .first .now) (start last .args .witness .positive)
-      (start last .args .witness .negative) (reached last .loop .peak) (max (reached last .loop .peak) (last .turn .result .peak))
+      (start last .args .witness .negative) (reached last .loop .peak) (max (reached last .loop .peak) (last .turn-known .result .peak))
       (omega arith))
       (turned-judged (before (start last)) (start last .args .first .now) (start last .args .witness .positive)
-      (start last .args .witness .negative) (good (start last)) (reached last .loop .peak) (member last) (last .turn .result) (table₁ last)
+      (start last .args .witness .negative) (good (start last)) (reached last .loop .peak) (member last) (last .turn-known .result) (table₁ last)
       (said last) (else1-from-loop-again c .if1 .left) conflicted)
       (said last .most) (store-from-loop-again c .store .ensures)
 
   turning : Turning (before (start last)) (start last .args .first .now) (start last .args .members .now)
       (start last .args .witness .positive) (start last .args .witness .negative) (c .pass-stored .result .place)
-      (c .pass-stored .result .rounds) (max (reached last .loop .peak) (last .turn .result .peak))
+      (c .pass-stored .result .rounds) (max (reached last .loop .peak) (last .turn-known .result .peak))
   turning =
       turning-passed (before (start last)) (start last .args .first .now) (start last .args .witness .positive)
       (start last .args .witness .negative) (good (start last)) (start last .args .members .now) judged₁ (reached last .loop .i + 1)
-      (reached last .loop .rounds + last .turn .result .rounds) (c .pass-stored .result .place) (c .pass-stored .result .rounds)
-      (max (reached last .loop .peak) (last .turn .result .peak)) known
+      (reached last .loop .rounds + last .turn-known .result .rounds) (c .pass-stored .result .place) (c .pass-stored .result .rounds)
+      (max (reached last .loop .peak) (last .turn-known .result .peak)) known
       (turns-on (before (start last)) (start last .args .first .now) (start last .args .members .now) (start last .args .witness .positive)
       (start last .args .witness .negative) (good (start last)) (reached last .loop .i) (reached last .loop .rounds) (reached last .loop .peak)
-      (reached last .loop .inv .1) (more last) (last .turn .result) (table₁ last) (said last) (else1-from-loop-again c .if1 .left) conflicted)
+      (reached last .loop .inv .1) (more last) (last .turn-known .result) (table₁ last) (said last) (else1-from-loop-again c .if1 .left) conflicted)
       passes
 
 loop-less : tie.Need-loop-less Inv-loop μ-loop
 loop-less c =
-    let a = turn-from-loop-again c in
+    let a = turn-known-from-loop-again c in
     omega (
       arith,
       more a,
       passes-least (start a .args .members .now) (judged₁ c) (reached a .loop .i + 1)
-          (reached a .loop .rounds + a .turn .result .rounds) (c .pass-stored .result .place) (c .pass-stored .result .rounds) (passes c),
+          (reached a .loop .rounds + a .turn-known .result .rounds) (c .pass-stored .result .place) (c .pass-stored .result .rounds) (passes c),
     )
 
 loop-again : tie.Need-loop-again Inv-loop μ-loop
 loop-again c =
     let d = drop-to-from-loop-again c in
-    let a = turn-from-loop-again c in
+    let a = turn-known-from-loop-again c in
     let s = start a in
     let w = reached a .loop in
     let g = sym (greater-from-loop-again c .greater .ensures) in (
@@ -492,9 +495,9 @@ loop-again c =
       subst (Turning (before s) (s .args .first .now) (s .args .members .now) (s .args .witness .positive) (s .args .witness .negative)
           (c .pass-stored .result .place) (c .pass-stored .result .rounds)) g (turning c),
       unmarked-again a,
-      a .turn .kept .1 .1 .1 .1 .1 .0 ∙ w .inv .3,
-      a .turn .kept .1 .1 .1 .1 .1 .1 .1 .1 .1 .0 ∙ w .inv .4,
-      a .turn .kept .1 .1 .1 .1 .1 .1 .1 .1 .1 .1 .0 ∙ w .inv .5,
+      a .turn-known .kept .1 .1 .1 .1 .1 .0 ∙ w .inv .3,
+      a .turn-known .kept .1 .1 .1 .1 .1 .1 .1 .1 .1 .0 ∙ w .inv .4,
+      a .turn-known .kept .1 .1 .1 .1 .1 .1 .1 .1 .1 .1 .0 ∙ w .inv .5,
       subst (λ (m : ℕ). Known (judged₁ c) (Equal c m)) g (known c),
       store-from-loop-again c .store .kept .0 ∙ w .inv .7,
     )
@@ -553,11 +556,11 @@ turns-spec =
     Inv-loop
     μ-loop
     loop-holds
-    mul-t23
-    shared-slice-read-t26
-    mul-turn
-    shared-slice-read-turn
-    turn-requires
+    mul-t24
+    shared-slice-read-t27
+    mul-turn-known
+    shared-slice-read-turn-known
+    turn-known-requires
     greater-requires
     same-length
     same-length-2
