@@ -1,3 +1,5 @@
+pub mod Cubes
+pub mod CubeWalks
 pub mod Worded
 pub mod Copies
 pub mod Negations

@@ -12,6 +12,7 @@ ghost use Rattle.table.specs.Lists.{diagramsOf};
 ghost use Rattle.supports.specs.Supports.{Supports};
 ghost use Rattle.judge.specs.Lines.{Negatable, Worded, ByNegation};
 
+pub mod cube;
 pub mod rup;
 
 // What judging says: `full` where a node found no room, else whether the line is shown, and its rounds; the count, and the greatest
@@ -102,9 +103,10 @@ pub fn by_negation(
             count: not.count,
         };
     }
-    let touching = supports::forced::forced_of(vars, lows, highs, memo, not.count, not.node, word);
+    let by = cube::by_node(vars, lows, highs, memo, not.count, not.node, word);
+    let op = by.op;
     let mut places = [0u16; 2048];
-    let many = touched::touched_places(words, touching, &mut places);
+    let many = touched::touched_places(words, by.touching, &mut places);
     members::all_by(
         vars,
         lows,
@@ -116,9 +118,9 @@ pub fn by_negation(
         words,
         &places[..many],
         not.count,
-        Operation::Cofactor,
-        not.node,
-        word,
-        touching,
+        op,
+        by.g,
+        by.gained,
+        by.touching,
     )
 }

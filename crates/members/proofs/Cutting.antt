@@ -1,5 +1,5 @@
--- A cofactor of a member by literals is that by those of its own variables. The idea: two sets of literals that agree on a diagram's variables
--- take the same sides. Assumes nothing.
+-- A cofactor of a member by literals is that by those of its own variables. The idea: two sets of literals that agree on a diagram's
+-- variables take the same sides. Assumes nothing.
 use mathlib.Core.Path.{_≡_, refl, sym, ap, ap₂, _∙_}
 use mathlib.Core.Bool.{Bool, true, false, _&&_, _||_}
 use Prim.Native.Nat.{ℕ, suc}

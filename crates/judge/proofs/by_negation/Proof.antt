@@ -19,6 +19,7 @@ use Rattle.members.specs.Made.{results, AllMade}
 use Rattle.members.specs.Touching.{Touches}
 use Rattle.touched.specs.Places.{AllBut, Untouched}
 use Rattle.judge.proofs.Negations.{negation-ready, negation-full, cofactors-ready, negation-words, cofactors-made}
+use Rattle.judge.proofs.CubeWalks.{same-results}
 use native.Mathlib.Omega.{arith}
 use Rattle.judge.proofs.by_negation.Statement.{statement}
 use Rattle.judge.proofs.by_negation.Tie as tie
@@ -83,20 +84,20 @@ module _ (c : tie.Then1) where
   abbrev copy-from-then1 : tie.After-copy
   copy-from-then1 = copy-from-copy-words copy-words-from-then1
 
-module _ (c : tie.After-forced-of-arg4) where
-  abbrev else1-from-forced-of-call : tie.Else1
-  else1-from-forced-of-call = c .before .before .before .before
+module _ (c : tie.After-by-node-arg4) where
+  abbrev else1-from-by-node-call : tie.Else1
+  else1-from-by-node-call = c .before .before .before .before
 
-  abbrev apply-from-forced-of-call : tie.After-apply
-  apply-from-forced-of-call = apply-from-else1 else1-from-forced-of-call
+  abbrev apply-from-by-node-call : tie.After-apply
+  apply-from-by-node-call = apply-from-else1 else1-from-by-node-call
 
 module _ (c : tie.After-places) where
-  abbrev forced-of-from-touched-places-call : tie.After-forced-of
-  forced-of-from-touched-places-call = c .before .before .before .before
+  abbrev by-node-from-touched-places-call : tie.After-by-node
+  by-node-from-touched-places-call = c .before .before .before .before
 
   abbrev copy-words-from-touched-places-call : tie.After-copy-words
   copy-words-from-touched-places-call = copy-words-from-clear-memo (clear-memo-from-apply-call (apply-from-slice-known17
-      (else1-from-forced-of-call (forced-of-from-touched-places-call .before) .before) .before))
+      (else1-from-by-node-call (by-node-from-touched-places-call .before) .before) .before))
 
   abbrev start-from-touched-places-call : tie.Start
   start-from-touched-places-call = start-from-copy (copy-from-copy-words copy-words-from-touched-places-call)
@@ -116,11 +117,11 @@ module _ (c : tie.After-places3) where
   abbrev touched-places-from-all-by-call : tie.After-touched-places
   touched-places-from-all-by-call = touched-places-from-array-share-prefix-places (c .before)
 
-  abbrev forced-of-from-all-by-call : tie.After-forced-of
-  forced-of-from-all-by-call = forced-of-from-touched-places-call (touched-places-from-all-by-call .before)
+  abbrev by-node-from-all-by-call : tie.After-by-node
+  by-node-from-all-by-call = by-node-from-touched-places-call (touched-places-from-all-by-call .before)
 
   abbrev else1-from-all-by-call : tie.Else1
-  else1-from-all-by-call = else1-from-forced-of-call (forced-of-from-all-by-call .before)
+  else1-from-all-by-call = else1-from-by-node-call (by-node-from-all-by-call .before)
 
   abbrev apply-from-all-by-call : tie.After-apply
   apply-from-all-by-call = apply-from-else1 else1-from-all-by-call
@@ -136,12 +137,12 @@ module _ (c : tie.After-slice-known26) where
   all-by-from-return-2 = c .before .before .before .before .before .before .before .before .before .before .before .before .before .before
       .before .before
 
-  abbrev forced-of-from-return-2 : tie.After-forced-of
-  forced-of-from-return-2 = forced-of-from-touched-places-call (touched-places-from-array-share-prefix-places (all-by-from-return-2 .before
+  abbrev by-node-from-return-2 : tie.After-by-node
+  by-node-from-return-2 = by-node-from-touched-places-call (touched-places-from-array-share-prefix-places (all-by-from-return-2 .before
       .before) .before)
 
   abbrev else1-from-return-2 : tie.Else1
-  else1-from-return-2 = else1-from-forced-of-call (forced-of-from-return-2 .before)
+  else1-from-return-2 = else1-from-by-node-call (by-node-from-return-2 .before)
 
   abbrev apply-from-return-2 : tie.After-apply
   apply-from-return-2 = apply-from-else1 else1-from-return-2
@@ -246,13 +247,13 @@ returns c =
       λ z. t≢f z,
     )
 
-forced-of-requires : tie.Need-forced-of-requires
+by-node-requires : tie.Need-by-node-requires
 unfolding nodesOf
-forced-of-requires c κs =
-    let a = apply-from-forced-of-call c in
-    let e = else1-from-forced-of-call c .if1 .left in
+by-node-requires c κs =
+    let a = apply-from-by-node-call c in
+    let e = else1-from-by-node-call c .if1 .left in
     let R = members-ready a e in
-    (good-readable (made a .table) (R .0 .good), R .1, R .0 .room, worded a e .2)
+    (good-readable (made a .table) (R .0 .good), R .1, R .0 .room, worded a e .2, R .2)
 
 -- the places found among the copied words
 module _ (c : tie.After-touched-places) where
@@ -299,25 +300,30 @@ all-by-requires c κs =
     let a = apply-from-all-by-call c in
     let s = start a in
     let e = else1-from-all-by-call c .if1 .left in
-    let y = forced-of-from-all-by-call c .forced-of in
+    let y = by-node-from-all-by-call c .by-node in
     let words = copy-words-from-all-by-call c .copy-words .last .1 .0 in
     let t = touched-places-from-all-by-call c in
     let found = places-found t in
     let R = members-ready a e in
     let W = worded a e in
-    let D = diagramAt (nodesOf (made a .table)) (made a .node) in (
-      subst (λ l. ListReady (made a .table) l (y .last .1 .1 .1 .0) × (made a .node < made a .table .count)
-          × Allowed Cofactor (made a .node)) (sym (copy-from-all-by-call c .copy .ensures))
-          (record { good = R .0 .good; inside = R .0 .inside; room = omega (arith, R .0 .room, y .kept .1 .1 .1 .0) }, R .1, R .2),
-      subst (λ l. (length words ≡ length l) × Supports (nodesOf (made a .table)) l words × Touches Cofactor D (y .result)
-          × Support (s .args .word) D × AllBut (length l) found (Untouched words (y .result)))
+    let r = y .result in
+    let B = y .ensures in
+    let D = diagramAt (nodesOf (made a .table)) (r .g .0) in (
+      subst (λ l. ListReady (made a .table) l (y .last .1 .1 .1 .0) × (r .g .0 < made a .table .count) × Allowed (r .op) (r .g .0))
+          (sym (copy-from-all-by-call c .copy .ensures)) (
+            record { good = R .0 .good; inside = R .0 .inside; room = omega (arith, R .0 .room, y .kept .1 .1 .1 .0) },
+            B .inside,
+            B .allowed,
+          ),
+      subst (λ l. (length words ≡ length l) × Supports (nodesOf (made a .table)) l words × Touches (r .op) D (r .touching)
+          × Support (r .gained) D × AllBut (length l) found (Untouched words (r .touching)))
           (sym (copy-from-all-by-call c .copy .ensures)) (
             copied-length t,
             subst (Supports (nodesOf (made a .table)) (s .args .members .now)) (sym (copy-words-from-all-by-call c .copy-words .ensures))
                 (W .1),
-            y .ensures,
-            W .2,
-            subst (λ n. AllBut n found (Untouched words (y .result))) (copied-length t) (t .touched-places .ensures .1),
+            B .touches,
+            B .gains,
+            subst (λ n. AllBut n found (Untouched words (r .touching))) (copied-length t) (t .touched-places .ensures .1),
           ),
     )
 
@@ -343,7 +349,7 @@ same-length-13 c =
 
 same-length-14 : tie.Need-same-length-14
 same-length-14 c =
-    all-by-from-return-2 c .all-by .kept .1 .1 .1 .1 .1 .0 ∙ forced-of-from-return-2 c .forced-of .kept .1 .1 .1 .0
+    all-by-from-return-2 c .all-by .kept .1 .1 .1 .1 .1 .0 ∙ by-node-from-return-2 c .by-node .kept .1 .1 .1 .0
     ∙ apply-from-return-2 c .apply .kept .1 .1 .1 .1 .1 .0 ∙ clear-memo-from-return-2 c .clear-memo .kept .0
 
 same-length-15 : tie.Need-same-length-15
@@ -354,6 +360,19 @@ same-length-16 : tie.Need-same-length-16
 same-length-16 c =
     all-by-from-return-2 c .all-by .kept .1 .1 .1 .1 .1 .1 .1 .0 ∙ copy-words-from-return-2 c .copy-words .kept .1 .0
 
+-- what is made are the cofactors by not-g
+made-by : (c : tie.After-slice-known26) → let a = apply-from-return-2 c in let r = by-node-from-return-2 c .by-node .result in
+    results (r .op) (made a .table) (copy-from-return-2 c .copy .last .1 .0) (r .g .0)
+    ≡ results Cofactor (made a .table) (start a .args .members .now) (made a .node)
+unfolding nodesOf
+made-by c =
+    let a = apply-from-return-2 c in
+    let r = by-node-from-return-2 c .by-node .result in
+    let R = members-ready a (else1-from-return-2 c .if1 .left) in
+    ap (λ l. results (r .op) (made a .table) l (r .g .0)) (copy-from-return-2 c .copy .ensures)
+    ∙ same-results (made a .table) (R .0 .good) (made a .node) r (by-node-from-return-2 c .by-node .ensures) (start a .args .members .now)
+    (R .0 .inside)
+
 returns-2 : tie.Need-returns-2
 returns-2 c =
     let a = apply-from-return-2 c in
@@ -363,9 +382,9 @@ returns-2 c =
           (else1-from-return-2 c .if1 .left) (b .result .full)
           (tableOf (b .last .0) (b .last .1 .0) (b .last .1 .1 .0) (b .last .1 .1 .1 .0) (b .last .1 .1 .1 .1 .0) (b .result .count))
           (b .last .1 .1 .1 .1 .1 .1 .0)
-          (subst (λ l. AllMade (made a .table) (results Cofactor (made a .table) l (made a .node)) (b .result .full)
+          (subst (λ ms. AllMade (made a .table) ms (b .result .full)
           (tableOf (b .last .0) (b .last .1 .0) (b .last .1 .1 .0) (b .last .1 .1 .1 .0) (b .last .1 .1 .1 .1 .0) (b .result .count))
-          (b .last .1 .1 .1 .1 .1 .1 .0)) (copy-from-return-2 c .copy .ensures) (b .ensures .0)),
+          (b .last .1 .1 .1 .1 .1 .1 .0)) (made-by c) (b .ensures .0)),
       b .ensures .1 .0,
     )
 
@@ -386,7 +405,7 @@ by-negation-spec =
     same-length-7
     same-length-8
     returns
-    forced-of-requires
+    by-node-requires
     slice-aggregate-touched-places
     touched-places-requires
     array-share-prefix-places

@@ -19,8 +19,8 @@ use Rattle.members.proofs.all_by.Statement.{statement}
 use Rattle.members.proofs.all_by.Tie as tie
 
 abbrev Inv-loop : tie.InvT-loop
-Inv-loop vars₀ lows₀ highs₀ heads₀ links₀ memo₀ list₀ words₀ places count op g gained touching xs₀ told₀ sides₀ n₀ written₀ k₀ vars lows highs
-    heads links memo list words xs told sides n written k =
+Inv-loop vars₀ lows₀ highs₀ heads₀ links₀ memo₀ list₀ words₀ places count op g gained touching xs₀ told₀ sides₀ n₀ written₀ k₀ vars lows
+    highs heads links memo list words xs told sides n written k =
     Making op (g .0) (tableOf vars₀ lows₀ highs₀ heads₀ links₀ count) list₀ words₀ (tableOf vars lows highs heads links n) list words memo
     (getD places k (length list₀)) written
     × (length vars ≡ length vars₀) × (length lows ≡ length lows₀) × (length highs ≡ length highs₀) × (length heads ≡ length heads₀)
@@ -31,8 +31,8 @@ Inv-loop vars₀ lows₀ highs₀ heads₀ links₀ memo₀ list₀ words₀ pla
     × (length sides ≡ 64)
 
 abbrev μ-loop : tie.MeasureT-loop
-μ-loop vars₀ lows₀ highs₀ heads₀ links₀ memo₀ list₀ words₀ places count op g gained touching xs₀ told₀ sides₀ n₀ written₀ k₀ vars lows highs
-    heads links memo list words xs told sides n written k = length places - k
+μ-loop vars₀ lows₀ highs₀ heads₀ links₀ memo₀ list₀ words₀ places count op g gained touching xs₀ told₀ sides₀ n₀ written₀ k₀ vars lows
+    highs heads links memo list words xs told sides n written k = length places - k
 
 abbrev entry : tie.Start Inv-loop μ-loop → Table
 entry s = let a = s .args in tableOf (a .vars .now) (a .lows .now) (a .highs .now) (a .heads .now) (a .links .now) (a .count)
@@ -224,11 +224,14 @@ member-by-requires c κs =
         this-inside i,
         omega (arith, so-far i .rewords .lengths, so-far i .members .members, r .1 .0, this-inside i),
         ready (a .op) (a .g .0) (a .gained) (a .touching) (entry s) (a .list .now) (a .words .now) (a .memo .now) (r .0 .0) (r .0 .1)
-            (r .0 .2) (r .1 .0) (r .1 .2) (r .1 .3) (here l) (w .list) (w .words) (w .memo) (this i) (w .written) (so-far i) (this-inside i),
-        has (a .op) (a .g .0) (a .gained) (a .touching) (entry s) (a .list .now) (a .words .now) (a .memo .now) (r .0 .0) (r .0 .1) (r .0 .2)
-            (r .1 .0) (r .1 .2) (r .1 .3) (here l) (w .list) (w .words) (w .memo) (this i) (w .written) (so-far i) (this-inside i),
+            (r .0 .2) (r .1 .0) (r .1 .2) (r .1 .3) (here l) (w .list) (w .words) (w .memo) (this i) (w .written) (so-far i)
+            (this-inside i),
+        has (a .op) (a .g .0) (a .gained) (a .touching) (entry s) (a .list .now) (a .words .now) (a .memo .now) (r .0 .0) (r .0 .1)
+            (r .0 .2) (r .1 .0) (r .1 .2) (r .1 .3) (here l) (w .list) (w .words) (w .memo) (this i) (w .written) (so-far i)
+            (this-inside i),
         touches-here (a .op) (a .g .0) (a .gained) (a .touching) (entry s) (a .list .now) (a .words .now) (a .memo .now) (r .0 .0) (r .0 .1)
-            (r .0 .2) (r .1 .0) (r .1 .2) (r .1 .3) (here l) (w .list) (w .words) (w .memo) (this i) (w .written) (so-far i) (this-inside i),
+            (r .0 .2) (r .1 .0) (r .1 .2) (r .1 .3) (here l) (w .list) (w .words) (w .memo) (this i) (w .written) (so-far i)
+            (this-inside i),
       ),
       (w .inv .7, w .inv .8, w .inv .9),
     )

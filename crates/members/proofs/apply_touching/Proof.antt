@@ -171,7 +171,8 @@ same-length-12 : tie.Need-same-length-12
 same-length-12 c = apply-sharing-from-return-2 c .apply-sharing .kept .1 .1 .1 .0 ∙ apply-thin-from-return-2 c .apply-thin .kept .1 .1 .1 .0
 
 same-length-13 : tie.Need-same-length-13
-same-length-13 c = apply-sharing-from-return-2 c .apply-sharing .kept .1 .1 .1 .1 .0 ∙ apply-thin-from-return-2 c .apply-thin .kept .1 .1 .1 .1 .0
+same-length-13 c = apply-sharing-from-return-2 c .apply-sharing .kept .1 .1 .1 .1 .0
+    ∙ apply-thin-from-return-2 c .apply-thin .kept .1 .1 .1 .1 .0
 
 same-length-14 : tie.Need-same-length-14
 same-length-14 c = search needs

@@ -1,12 +1,10 @@
 -- `way_down` is the way of its kind; a cofactor by literals has node 1 for its second. Assumes nothing.
 use mathlib.Core.Path.{_≡_, sym, subst}
-use mathlib.Core.List.{List}
 use Prim.Native.Nat.{ℕ}
 use borrow.Author.Needs.{needs}
 use Rattle.table.specs.Indexed.{tableOf}
 use Rattle.operate.specs.Inner.{operationOf}
 use Rattle.operate.specs.declared.step.Kind.{Kind}
-use Rattle.operate.specs.declared.step.Kind.the-variants.{ByLiterals}
 use Rattle.thin.specs.Thin.{byLiterals, SomeGiven, CameBy}
 use Rattle.thin.proofs.way_down.Statement.{statement}
 use Rattle.thin.proofs.way_down.Tie as tie

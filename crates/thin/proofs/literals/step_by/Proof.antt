@@ -1,18 +1,15 @@
 -- Each step is that of the recursion with node 1, in every table with these columns. Assumes nothing.
 use mathlib.Core.Path.{_≡_, sym, _∙_}
-use mathlib.Core.Bool.{true, false}
+use mathlib.Core.Bool.{false}
 use mathlib.Core.List.{List}
-use Prim.Native.Nat.{ℕ, _<_}
-use lib.ListN.{length, getD}
+use Prim.Native.Nat.{ℕ}
+use lib.ListN.{getD}
 use borrow.Author.Needs.{needs}
 use Rattle.table.specs.declared.Found.the-variants.{Nothing}
 use Rattle.table.specs.Indexed.{Table, tableOf}
 use Rattle.words.specs.declared.Literals as words
 use Rattle.meaning.specs.Words.{inWord}
-use Rattle.operate.specs.Inner.{found}
-use Rattle.operate.proofs.Results.{columns-hold}
 use Rattle.thin.specs.Thin.{byLiterals, settledBy}
-use Rattle.thin.specs.declared.StepDown.the-variants.{Told}
 use Rattle.operate.specs.declared.step.Kind.the-variants.{ByLiterals}
 use Rattle.thin.proofs.Stepping.{given-leveled, step-told}
 use Rattle.thin.proofs.LiteralSteps.{test-true, test-false, variable-of, high-left, low-left, low-leveled, high-leveled}
