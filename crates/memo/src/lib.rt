@@ -88,7 +88,7 @@ fn cell_of(memo: &[u64], n: usize, mix: u64, f: NodeNo, g: NodeNo) -> usize
     n
 }
 
-// Whether results are held for nodes whose first variable is x.
+// Whether results are held that x and two sides made.
 fn is_held(step: u64, x: u8) -> bool {
     if step <= 1 {
         return true;
@@ -121,13 +121,13 @@ pub fn memo_home(memo: &[u64], mix: u64, f: NodeNo, g: NodeNo) -> Found
     told_by(memo[HEAD + c], f, g)
 }
 
-// The result stored for f and g, mixed to `mix`, whose first variable is x, where it may stand beside their home.
-pub fn memo_find(memo: &[u64], mix: u64, x: u8, f: NodeNo, g: NodeNo) -> Found
+// The result stored for f and g, mixed to `mix`, where it may stand beside their home.
+pub fn memo_find(memo: &[u64], mix: u64, f: NodeNo, g: NodeNo) -> Found
     requires { ⌜ Shaped (now memo) × (mix < 4294967296) ⌝ }
     ensures { λ r. ⌜ Tells (now (memo .entry)) (f .0) (g .0) r ⌝ }
 {
     let n = memo[LIVE] as usize;
-    if HEAD + n < memo.len() || !is_held(memo[STEP], x) {
+    if HEAD + n < memo.len() {
         return Found::Nothing;
     }
     let c = cell_of(memo, n, mix, f, g);
@@ -244,7 +244,7 @@ fn cell_for(memo: &[u64], n: usize, mix: u64, f: NodeNo, g: NodeNo) -> usize
     home_of(n, mix) + (memo[STORED] % 8) as usize
 }
 
-// Stores the result for f and g, mixed to `mix`, whose first variable is x.
+// Stores the result for f and g, mixed to `mix`, which x and two sides made.
 pub fn memo_put(memo: &mut [u64], mix: u64, x: u8, f: NodeNo, g: NodeNo, r: NodeNo)
     requires { ⌜ Shaped (now memo) × (mix < 4294967296) ⌝ }
     ensures { λ _. ⌜ Stores (now (memo .entry)) (f .0) (g .0) (r .0) (now (memo .exit)) ⌝ }

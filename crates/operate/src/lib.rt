@@ -133,8 +133,7 @@ fn work_out(
         let after = tableOf (now (vars .exit)) (now (lows .exit)) (now (highs .exit)) (now (heads .exit)) (now (links .exit)) (r .count) in
         MemoRight (operationOf kind by) (now (memo .exit)) after) ⌝ }
 {
-    let x = step::top_of(vars, f, g);
-    match memo::memo_find(memo, mix, x, f, g) {
+    match memo::memo_find(memo, mix, f, g) {
         Found::At(r) => Placed {
             full: false,
             node: r,
@@ -151,7 +150,7 @@ fn work_out(
                 if p.full {
                     return p;
                 }
-                memo::memo_put(memo, mix, x, f, g, p.node);
+                memo::memo_put(memo, mix, s.x, f, g, p.node);
                 p
             }
         },

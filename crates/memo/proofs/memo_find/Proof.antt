@@ -14,12 +14,6 @@ shared-slice-read-n c = search needs
 add-if1 : tie.Need-add-if1
 add-if1 c = search needs
 
-shared-slice-read-is-held : tie.Need-shared-slice-read-is-held
-shared-slice-read-is-held c = search needs
-
-is-held-requires : tie.Need-is-held-requires
-is-held-requires c κs = search needs
-
 returns : tie.Need-returns
 returns c = search needs
 
@@ -44,17 +38,17 @@ told-by-requires c κs = search needs
 -- The ways back, written by ways.py: TO-from-FROM leads from the place FROM of the code to the place TO before it.
 module _ (c : tie.After-cell-of) where
   abbrev start-from-cell-of : tie.Start
-  start-from-cell-of = c .before .before .before .before .before .before .before
+  start-from-cell-of = c .before .before .before .before
 
 module _ (c : tie.After-told-by) where
-  abbrev else4-from-return-3 : tie.Else4
-  else4-from-return-3 = c .before .before
-
   abbrev else3-from-return-3 : tie.Else3
-  else3-from-return-3 = else4-from-return-3 .before .before
+  else3-from-return-3 = c .before .before
+
+  abbrev else2-from-return-3 : tie.Else2
+  else2-from-return-3 = else3-from-return-3 .before .before
 
   abbrev cell-of-from-return-3 : tie.After-cell-of
-  cell-of-from-return-3 = else3-from-return-3 .before
+  cell-of-from-return-3 = else2-from-return-3 .before
 
   abbrev start-from-return-3 : tie.Start
   start-from-return-3 = start-from-cell-of cell-of-from-return-3
@@ -66,7 +60,7 @@ returns-3 c =
     let y = c .told-by .ensures in
     subst (Tells (a .memo .now) (a .f .0) (a .g .0)) (sym (y .0))
     (cell-tells (a .memo .now) (cell-of-from-return-3 c .cell-of .result) (a .f .0) (a .g .0)
-    (omega (arith, else3-from-return-3 c .if3 .left)) (y .1) (ltb-false _ _ (else4-from-return-3 c .if4 .left)))
+    (omega (arith, else2-from-return-3 c .if2 .left)) (y .1) (ltb-false _ _ (else3-from-return-3 c .if3 .left)))
 
 pub memo-find-spec : {M : Type 1} → statement M
 memo-find-spec =
@@ -74,8 +68,6 @@ memo-find-spec =
     (tie.spec
     shared-slice-read-n
     add-if1
-    shared-slice-read-is-held
-    is-held-requires
     returns
     cell-of-requires
     returns-2

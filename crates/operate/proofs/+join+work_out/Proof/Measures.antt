@@ -13,7 +13,6 @@ use Rattle.memo.proofs.mixed.Reads as mixed-reads
 use Rattle.memo.proofs.memo_find.Reads as memo-find-reads
 use Rattle.memo.proofs.memo_home.Reads as memo-home-reads
 use Rattle.memo.proofs.memo_put.Reads as memo-put-reads
-use Rattle.operate.proofs.step.top_of.Reads as top-of-reads
 use Rattle.operate.proofs.step.forced_down.Reads as forced-down-reads
 use Rattle.table.proofs.put.Reads as put-reads
 
@@ -37,8 +36,6 @@ join-below t = and 6 join-kinds.ps (falls 6 join-kinds.ps _<_ μ-join t) join.Pr
 
 abbrev pub work-out-callees : ℕ → work-out-lts.Claims
 work-out-callees t = (
-  top-of-reads.Asked,
-  top-of-reads.Learnt,
   memo-find-reads.Asked,
   memo-find-reads.Learnt,
   forced-down-reads.Asked,

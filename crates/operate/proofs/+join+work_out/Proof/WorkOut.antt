@@ -13,7 +13,7 @@ use Rattle.operate.specs.declared.step.Ahead.the-variants.{Told, Both}
 use Rattle.operate.specs.declared.step.Sides.{Sides}
 use Rattle.operate.specs.Inner.{applied, operationOf, top, Ready, Given, resultAt, Split, AheadSays}
 use Rattle.operate.proofs.RightMemo.{stores-right}
-use Rattle.operate.proofs.Results.{columns-hold, known-outcome, made-right}
+use Rattle.operate.proofs.Results.{known-outcome, made-right}
 use Rattle.operate.proofs.work_out.Reads as work-out
 use Rattle.operate.proofs.+join+work_out.Lts-work_out as work-out-lts
 use Rattle.operate.proofs.+join+work_out.Proof.Measures.{work-out-at, work-out-callees}
@@ -49,17 +49,9 @@ module _ {t : ℕ} (s : work-out-lts.Start (work-out-callees t) (work-out-at t) 
   a-measure = s .pre .0
 
 -- The ways back, written by ways.py: TO-from-FROM leads from the place FROM of the code to the place TO before it.
-module _ {t : ℕ} (c : work-out-lts.After-top-of-arg (work-out-callees t) (work-out-at t) work-out.Post) where
-  abbrev start-from-top-of-call : work-out-lts.Start (work-out-callees t) (work-out-at t) work-out.Post
-  start-from-top-of-call = c .before .before .before .before .before .before .before
-
 module _ {t : ℕ} (c : work-out-lts.After-memo-find-arg (work-out-callees t) (work-out-at t) work-out.Post) where
   abbrev start-from-memo-find-call : work-out-lts.Start (work-out-callees t) (work-out-at t) work-out.Post
-  start-from-memo-find-call = start-from-top-of-call (c .before .before)
-
-module _ {t : ℕ} (c : work-out-lts.After-memo-find (work-out-callees t) (work-out-at t) work-out.Post) where
-  abbrev top-of-arg-from-memo-find : work-out-lts.After-top-of-arg (work-out-callees t) (work-out-at t) work-out.Post
-  top-of-arg-from-memo-find = c .before .before .before
+  start-from-memo-find-call = c .before .before .before .before .before .before .before
 
 module _ {t : ℕ} (c : work-out-lts.After-known-told (work-out-callees t) (work-out-at t) work-out.Post) where
   abbrev r-from-return-2 : work-out-lts.After-r (work-out-callees t) (work-out-at t) work-out.Post
@@ -69,14 +61,14 @@ module _ {t : ℕ} (c : work-out-lts.After-known-told (work-out-callees t) (work
   memo-find-from-return-2 = r-from-return-2 .before .before
 
   abbrev start-from-return-2 : work-out-lts.Start (work-out-callees t) (work-out-at t) work-out.Post
-  start-from-return-2 = start-from-top-of-call (top-of-arg-from-memo-find memo-find-from-return-2)
+  start-from-return-2 = start-from-memo-find-call (memo-find-from-return-2 .before)
 
 module _ {t : ℕ} (c : work-out-lts.After-forced-down-arg3 (work-out-callees t) (work-out-at t) work-out.Post) where
   abbrev memo-find-from-forced-down-call : work-out-lts.After-memo-find (work-out-callees t) (work-out-at t) work-out.Post
   memo-find-from-forced-down-call = c .before .before .before .before .before
 
   abbrev start-from-forced-down-call : work-out-lts.Start (work-out-callees t) (work-out-at t) work-out.Post
-  start-from-forced-down-call = start-from-top-of-call (top-of-arg-from-memo-find memo-find-from-forced-down-call)
+  start-from-forced-down-call = start-from-memo-find-call (memo-find-from-forced-down-call .before)
 
 module _ {t : ℕ} (c : work-out-lts.After-forced-down (work-out-callees t) (work-out-at t) work-out.Post) where
   abbrev start-from-forced-down : work-out-lts.Start (work-out-callees t) (work-out-at t) work-out.Post
@@ -180,11 +172,6 @@ module _ {t : ℕ} (a : work-out-lts.After-join (work-out-callees t) (work-out-a
   a-is : a-out ≡ applied (a-table a-start) (a-op a-start) (a-f a-start) (a-g a-start)
   a-is = a .join .ensures .0 ∙ ap (placeIn (a-table a-start)) (sym (d-split (s-from-join a) .over))
 
-top-of-requires : (t : ℕ) → work-out-lts.Need-top-of-requires (work-out-callees t) (work-out-at t) work-out.Post
-top-of-requires t c κs =
-    let s = start-from-top-of-call c in
-    let h = columns-hold (a-op s) (a-table s) (a-f s) (a-g s) (a-ready s .operands) in (h .0, h .1)
-
 memo-find-requires : (t : ℕ) → work-out-lts.Need-memo-find-requires (work-out-callees t) (work-out-at t) work-out.Post
 memo-find-requires t c κs =
     let s = start-from-memo-find-call c in (a-ready s .right .shaped, a-mix s)
@@ -254,15 +241,15 @@ same-length-7 : (t : ℕ) → work-out-lts.Need-same-length-7 (work-out-callees 
 same-length-7 t c =
     search needs
 
-same-length-8 : (t : ℕ) → work-out-lts.Need-same-length-8 (work-out-callees t) (work-out-at t) work-out.Post
-same-length-8 t c =
-    search needs
-
 returns-2 : (t : ℕ) → work-out-lts.Need-returns-2 (work-out-callees t) (work-out-at t) work-out.Post
 returns-2 t c =
     let s = start-from-return-2 c in
     let found = subst (Tells (a-memo s) (a-f s) (a-g s)) (r-from-return-2 c .r .given .1) (memo-find-from-return-2 c .memo-find .ensures) in
     (known-outcome (a-op s) (a-table s) (a-f s) (a-g s) (a-ready s .operands) _ (a-ready s .right .entries _ _ _ found), a-ready s .right)
+
+same-length-8 : (t : ℕ) → work-out-lts.Need-same-length-8 (work-out-callees t) (work-out-at t) work-out.Post
+same-length-8 t c =
+    search needs
 
 same-length-9 : (t : ℕ) → work-out-lts.Need-same-length-9 (work-out-callees t) (work-out-at t) work-out.Post
 same-length-9 t c =
@@ -276,10 +263,6 @@ same-length-11 : (t : ℕ) → work-out-lts.Need-same-length-11 (work-out-callee
 same-length-11 t c =
     search needs
 
-same-length-12 : (t : ℕ) → work-out-lts.Need-same-length-12 (work-out-callees t) (work-out-at t) work-out.Post
-same-length-12 t c =
-    search needs
-
 returns-3 : (t : ℕ) → work-out-lts.Need-returns-3 (work-out-callees t) (work-out-at t) work-out.Post
 returns-3 t c =
     let s = start-from-return-3 c in
@@ -289,28 +272,28 @@ returns-3 t c =
       a-ready s .right,
     )
 
+same-length-12 : (t : ℕ) → work-out-lts.Need-same-length-12 (work-out-callees t) (work-out-at t) work-out.Post
+same-length-12 t c =
+    join-from-return-4 c .join .kept .0
+
 same-length-13 : (t : ℕ) → work-out-lts.Need-same-length-13 (work-out-callees t) (work-out-at t) work-out.Post
 same-length-13 t c =
-    join-from-return-4 c .join .kept .0
+    join-from-return-4 c .join .kept .1 .0
 
 same-length-14 : (t : ℕ) → work-out-lts.Need-same-length-14 (work-out-callees t) (work-out-at t) work-out.Post
 same-length-14 t c =
-    join-from-return-4 c .join .kept .1 .0
+    join-from-return-4 c .join .kept .1 .1 .0
 
 same-length-15 : (t : ℕ) → work-out-lts.Need-same-length-15 (work-out-callees t) (work-out-at t) work-out.Post
 same-length-15 t c =
-    join-from-return-4 c .join .kept .1 .1 .0
+    join-from-return-4 c .join .kept .1 .1 .1 .0
 
 same-length-16 : (t : ℕ) → work-out-lts.Need-same-length-16 (work-out-callees t) (work-out-at t) work-out.Post
 same-length-16 t c =
-    join-from-return-4 c .join .kept .1 .1 .1 .0
+    join-from-return-4 c .join .kept .1 .1 .1 .1 .0
 
 same-length-17 : (t : ℕ) → work-out-lts.Need-same-length-17 (work-out-callees t) (work-out-at t) work-out.Post
 same-length-17 t c =
-    join-from-return-4 c .join .kept .1 .1 .1 .1 .0
-
-same-length-18 : (t : ℕ) → work-out-lts.Need-same-length-18 (work-out-callees t) (work-out-at t) work-out.Post
-same-length-18 t c =
     memo-put-from-return-4 c .memo-put .kept .0 ∙ join-from-return-4 c .join .kept .1 .1 .1 .1 .1 .0
 
 returns-4 : (t : ℕ) → work-out-lts.Need-returns-4 (work-out-callees t) (work-out-at t) work-out.Post
@@ -325,7 +308,6 @@ returns-4 t c =
 pub work-out-met : {M : Type 1} (t : ℕ) → work-out-lts.Closed (work-out-callees t) (work-out-at t) work-out.Post M
 work-out-met t =
     work-out-lts.spec (work-out-callees t) (work-out-at t) work-out.Post
-    (top-of-requires t)
     (memo-find-requires t)
     (enum-known-r t)
     (enum-told t)
@@ -342,17 +324,16 @@ work-out-met t =
     (returns t)
     (memo-put-requires t)
     (same-length-7 t)
-    (same-length-8 t)
     (returns-2 t)
+    (same-length-8 t)
     (same-length-9 t)
     (same-length-10 t)
     (same-length-11 t)
-    (same-length-12 t)
     (returns-3 t)
+    (same-length-12 t)
     (same-length-13 t)
     (same-length-14 t)
     (same-length-15 t)
     (same-length-16 t)
     (same-length-17 t)
-    (same-length-18 t)
     (returns-4 t)
