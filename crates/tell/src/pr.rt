@@ -76,7 +76,7 @@ fn passes(
         return true;
     }
     let f = NodeNo(members[i]);
-    let t = pr_lines::turn(
+    let t = pr_turn::turn(
         vars,
         lows,
         highs,

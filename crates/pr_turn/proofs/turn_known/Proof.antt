@@ -11,9 +11,9 @@ use Rattle.operate.specs.Inner.{applied}
 use Rattle.operate.proofs.RightMemo.{empty-right}
 use Rattle.conflict.specs.Marks.{unmarked}
 use Rattle.judge.proofs.Turning.{turn-constant, literals-ready, turn-full, turn-ready, turn-worded, turn-judged}
-use Rattle.pr_lines.proofs.Looks.{turn-looked}
-use Rattle.pr_lines.proofs.turn_known.Statement.{statement}
-use Rattle.pr_lines.proofs.turn_known.Tie as tie
+use Rattle.pr_turn.proofs.Looks.{turn-looked}
+use Rattle.pr_turn.proofs.turn_known.Statement.{statement}
+use Rattle.pr_turn.proofs.turn_known.Tie as tie
 
 module _ (s : tie.Start) where
   abbrev before : Table

@@ -1,7 +1,7 @@
 -- `turn` is `turn_known` where nothing was said of the members by not-g. Assumes nothing.
 use Rattle.quiet.proofs.Known.{nothing-known}
-use Rattle.pr_lines.proofs.turn.Statement.{statement}
-use Rattle.pr_lines.proofs.turn.Tie as tie
+use Rattle.pr_turn.proofs.turn.Statement.{statement}
+use Rattle.pr_turn.proofs.turn.Tie as tie
 
 -- The ways back, written by ways.py: TO-from-FROM leads from the place FROM of the code to the place TO before it.
 module _ (c : tie.After-turn-known-arg9) where
