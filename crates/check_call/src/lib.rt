@@ -12,7 +12,7 @@ ghost use Rattle.session.specs.Checked.{checkOutcome};
 // The memo's cells: for up to 64 places, for up to 4,096 with a short proof, and else.
 const CELLS_64: usize = 1024;
 
-const CELLS_SHORT: usize = 8192;
+const CELLS_SHORT: usize = 32768;
 
 const CELLS: usize = 131072;
 

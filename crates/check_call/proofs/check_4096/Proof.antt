@@ -8,7 +8,7 @@ use Rattle.check_call.proofs.check_4096.Tie as tie
 
 slice-aggregate-run : tie.Need-slice-aggregate-run
 slice-aggregate-run c =
-    length-whole 8192
+    length-whole 32768
 
 array-borrow-prefix-marks : tie.Need-array-borrow-prefix-marks
 array-borrow-prefix-marks c =
@@ -43,7 +43,7 @@ run-requires c κs =
       start .pre .0,
       (
         part-zeros (length (start .args .vars .now)) 4096 (omega (arith, start .pre .1)),
-        omega (arith, length-whole 8192, start .pre .1),
+        omega (arith, length-whole 32768, start .pre .1),
       ),
     )
 
