@@ -16,9 +16,9 @@ ghost use Rattle.quiet.specs.Quiet.{LookSays};
 ghost use Rattle.supports.specs.Supports.{Supports};
 ghost use Rattle.judge.specs.Lines.{Negatable, LineSays};
 
-// The turns of all members, by place, where the members by not-g were `looked` at, up to one that is `full` or does not conflict. Each one's
-// nodes are dropped before the next. A member whose node had its turn has the same rounds and reaches no more, so its turn is not worked out
-// again.
+// The turns of all members, by place, up to one that is `full` or does not conflict, where the members by not-g were `looked` at. Each
+// one's nodes are dropped before the next. A member whose node had its turn has the same rounds and reaches no more, so its turn is not
+// worked out again.
 fn turns(
     vars: &mut [u8],
     lows: &mut [u16],

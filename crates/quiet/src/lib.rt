@@ -93,8 +93,8 @@ fn changed_places(known: &[u16], list: &[u16], places: &mut [u16]) -> usize
     count
 }
 
-// What comes first in the propagation of a list, where one of the same length was looked at. If that is quiet, only members that differ from
-// it are asked for a conflict, and of those in front that had no unit only these for units.
+// What comes first in the propagation of a list, where one of the same length was looked at. If that is quiet, only members that differ
+// from it are asked for a conflict, and of those in front that had no unit only these for units.
 fn first_look(
     vars: &[u8],
     lows: &[u16],

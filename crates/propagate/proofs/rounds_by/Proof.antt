@@ -1,5 +1,5 @@
 -- Round by round: what holds before one holds before the next. Assumes nothing.
-use mathlib.Core.Path.{_≡_, refl, sym, ap, _∙_, subst}
+use mathlib.Core.Path.{refl, sym, ap, _∙_, subst}
 use mathlib.Core.Bool.{false}
 use mathlib.Core.List.{List}
 use Prim.Native.Nat.{ℕ, _+_, _-_}
@@ -16,7 +16,7 @@ use Rattle.propagate.proofs.rounds_by.Statement.{statement}
 use Rattle.propagate.proofs.rounds_by.Tie as tie
 use Rattle.propagate.proofs.rounds_by.Proof.Known.{Inv-loop, μ-loop, entry, here, after, list-after, few, ready, many-fit}
 use Rattle.propagate.proofs.rounds_by.Proof.Known.{places-long, many-there, counted, all-but, same-list, goes-on, asks, asks-units}
-use Rattle.propagate.proofs.rounds_by.Proof.Known.{many, nodes-long, nodes-are}
+use Rattle.propagate.proofs.rounds_by.Proof.Known.{nodes-long, nodes-are}
 mod Known
 
 -- The ways back, written by ways.py: TO-from-FROM leads from the place FROM of the code to the place TO before it.

@@ -12,12 +12,10 @@ use Rattle.meaning.proofs.Booleans.{not-not}
 use Rattle.table.specs.Indexed.{Table, tableOf, nodesOf}
 use Rattle.table.specs.Lists.{diagramsOf}
 use Rattle.table.proofs.Written.{good-ordered}
-use Rattle.touched.specs.Places.{AllBut}
 use Rattle.conflict.specs.Members.{Asked}
 use Rattle.conflict.proofs.Numbers.{zero-conflicts}
 use Rattle.conflict.proofs.Marked.{in-nodes}
 use Rattle.propagate.proofs.Rounds.{ends-conflict}
-use Rattle.quiet.specs.Quiet.{SameAt}
 use Rattle.quiet.proofs.Known.{asked-known, units-known}
 use Rattle.quiet.proofs.first_look.Statement.{statement}
 use Rattle.quiet.proofs.first_look.Tie as tie
