@@ -20,7 +20,7 @@ WORDS = {
     "units": "U of a diagram", "negate": "negations found",
     "conflict": "rule (a)", "supports": "a node's variables", "single": "the single calls", "propagate": "unit propagation",
     "members": "members replaced", "unit_search": "first member with units", "touched": "members to change",
-    "judge": "RUP lines", "turn_memo": "turns judged", "pr_lines": "PR lines", "path_lines": "path lines", "paths": "paths to 0, in order", "profile": "what the profile admits",
+    "quiet": "lists looked at", "judge": "RUP lines", "turn_memo": "turns judged", "pr_turn": "a PR line's turn", "pr_lines": "PR lines", "path_lines": "path lines", "paths": "paths to 0, in order", "profile": "what the profile admits",
     "good_order": "good order, tested", "check_call": "sizes, working arrays", "state": "between two commands",
     "steps": "a record's step", "entries": "records that make entries", "formula": "makes the clauses",
     "replay": "command after command", "session": "the whole check", "checker": "calls with no requires",
