@@ -2,7 +2,7 @@
 // half of its cells are empty, a result stands in its home alone, which is one test. With all of the slice in use it may stand in
 // any of the eight cells from its home on; where all of them hold others, one of those gives way. So no search is long, and what is
 // forgotten is what has not been asked for a while. Where so much is forgotten that work is done again and again, only every
-// step-th variable's results are held, so that the work is bounded by the cells times 2 to the step, and not by the number of
+// step-th depth's results are held, so that the work is bounded by the cells times 2 to the step, and not by the number of
 // paths.
 use table::Found;
 use table::NodeNo;
@@ -88,12 +88,12 @@ fn cell_of(memo: &[u64], n: usize, mix: u64, f: NodeNo, g: NodeNo) -> usize
     n
 }
 
-// Whether results are held that x and two sides made.
-fn is_held(step: u64, x: u8) -> bool {
+// Whether results are held that are made so many calls below the first.
+fn is_held(step: u64, depth: u64) -> bool {
     if step <= 1 {
         return true;
     }
-    (x as u64) % step == 0
+    depth % step == 0
 }
 
 // What a cell tells of f and g: its result where it has their key.
@@ -244,12 +244,17 @@ fn cell_for(memo: &[u64], n: usize, mix: u64, f: NodeNo, g: NodeNo) -> usize
     home_of(n, mix) + (memo[STORED] % 8) as usize
 }
 
-// Stores the result for f and g, mixed to `mix`, which x and two sides made.
-pub fn memo_put(memo: &mut [u64], mix: u64, x: u8, f: NodeNo, g: NodeNo, r: NodeNo)
+// The depth of a call's own calls.
+pub fn next_depth(depth: u64) -> u64 {
+    std::num::wrapping_add_u64(depth, 1)
+}
+
+// Stores the result for f and g, mixed to `mix`, which is made `depth` calls below the first.
+pub fn memo_put(memo: &mut [u64], mix: u64, depth: u64, f: NodeNo, g: NodeNo, r: NodeNo)
     requires { ⌜ Shaped (now memo) × (mix < 4294967296) ⌝ }
     ensures { λ _. ⌜ Stores (now (memo .entry)) (f .0) (g .0) (r .0) (now (memo .exit)) ⌝ }
 {
-    if !is_held(memo[STEP], x) {
+    if !is_held(memo[STEP], depth) {
         return;
     }
     make_room(memo);

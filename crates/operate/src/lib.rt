@@ -102,10 +102,12 @@ pub fn apply_sharing(
         f,
         g,
         mix,
+        0,
     )
 }
 
-// The operation from its memo, from what the steps of one side lead to, or from two sides. The numbers of f and g are mixed to `mix`.
+// The operation from its memo, from what the steps of one side lead to, or from two sides. The numbers of f and g are mixed
+// to `mix`; `depth` is how many such calls it is below the first.
 fn work_out(
     vars: &mut [u8],
     lows: &mut [u16],
@@ -119,6 +121,7 @@ fn work_out(
     f: NodeNo,
     g: NodeNo,
     mix: u64,
+    depth: u64,
 ) -> Placed
     requires { ⌜ (
         let before = tableOf (now vars) (now lows) (now highs) (now heads) (now links) count in
@@ -146,11 +149,24 @@ fn work_out(
                 count,
             },
             Ahead::Both(s) => {
-                let p = join(vars, lows, highs, heads, links, memo, count, kind, by, s);
+                let below = memo::next_depth(depth);
+                let p = join(
+                    vars,
+                    lows,
+                    highs,
+                    heads,
+                    links,
+                    memo,
+                    count,
+                    kind,
+                    by,
+                    s,
+                    below,
+                );
                 if p.full {
                     return p;
                 }
-                memo::memo_put(memo, mix, s.x, f, g, p.node);
+                memo::memo_put(memo, mix, depth, f, g, p.node);
                 p
             }
         },
@@ -169,6 +185,7 @@ fn join(
     kind: Kind,
     by: Literals,
     s: Sides,
+    depth: u64,
 ) -> Placed
     requires { ⌜ (
         let before = tableOf (now vars) (now lows) (now highs) (now heads) (now links) count in
@@ -203,6 +220,7 @@ fn join(
             s.f0,
             s.g0,
             low,
+            depth,
         ),
     };
     if p.full {
@@ -229,6 +247,7 @@ fn join(
             s.f1,
             s.g1,
             high,
+            depth,
         ),
     };
     if q.full {

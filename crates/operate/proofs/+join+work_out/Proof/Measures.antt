@@ -13,6 +13,7 @@ use Rattle.memo.proofs.mixed.Reads as mixed-reads
 use Rattle.memo.proofs.memo_find.Reads as memo-find-reads
 use Rattle.memo.proofs.memo_home.Reads as memo-home-reads
 use Rattle.memo.proofs.memo_put.Reads as memo-put-reads
+use Rattle.memo.proofs.next_depth.Reads as next-depth-reads
 use Rattle.operate.proofs.step.forced_down.Reads as forced-down-reads
 use Rattle.table.proofs.put.Reads as put-reads
 
@@ -40,6 +41,8 @@ work-out-callees t = (
   memo-find-reads.Learnt,
   forced-down-reads.Asked,
   forced-down-reads.Learnt,
+  next-depth-reads.Asked,
+  next-depth-reads.Learnt,
   join-below t,
   join.Post,
   memo-put-reads.Asked,

@@ -93,7 +93,7 @@ module _ {t : ℕ} (c : work-out-lts.After-known-told2 (work-out-callees t) (wor
 
 module _ {t : ℕ} (c : work-out-lts.After-join-arg6 (work-out-callees t) (work-out-at t) work-out.Post) where
   abbrev s-from-join-call : work-out-lts.After-s (work-out-callees t) (work-out-at t) work-out.Post
-  s-from-join-call = c .before .before .before .before .before .before .before
+  s-from-join-call = c .before .before .before .before .before .before .before .before
 
   abbrev start-from-join-call : work-out-lts.Start (work-out-callees t) (work-out-at t) work-out.Post
   start-from-join-call = start-from-s s-from-join-call
@@ -195,6 +195,10 @@ enum-known-r-2 t c =
 
 enum-known-s : (t : ℕ) → work-out-lts.Need-enum-known-s (work-out-callees t) (work-out-at t) work-out.Post
 enum-known-s t c =
+    search needs
+
+next-depth-requires : (t : ℕ) → work-out-lts.Need-next-depth-requires (work-out-callees t) (work-out-at t) work-out.Post
+next-depth-requires t c κs =
     search needs
 
 join-requires : (t : ℕ) → work-out-lts.Need-join-requires (work-out-callees t) (work-out-at t) work-out.Post
@@ -314,6 +318,7 @@ work-out-met t =
     (forced-down-requires t)
     (enum-known-r-2 t)
     (enum-known-s t)
+    (next-depth-requires t)
     (join-requires t)
     (same-length t)
     (same-length-2 t)
