@@ -1,5 +1,5 @@
 -- 02's explanations by computation from the definitions: the rows that the checker written apart gives. Assumes nothing.
-use mathlib.Core.Path.{refl}
+use mathlib.Core.Path.{_≡_, refl}
 use native.Mathlib.Decide.{ℕ-discrete}
 use Rattle.meaning.specs.Diagram.{diagramFrom, same?, valueFrom}
 use Rattle.meaning.specs.Operations.{clause}
@@ -11,7 +11,10 @@ use Rattle.dimacs.specs.Clauses.{clausesFrom}
 use Rattle.records.specs.Records.{recordAt}
 use Rattle.commands.specs.Commands.{textRead, binaryRead}
 use Rattle.causes.specs.Explanation.{explanation}
-use Rattle.causes.specs.Rows.{ShowsAll, rows, laterRows}
+use Rattle.table.specs.Columns.{sizeFits}
+use Rattle.verdict.specs.Check.{lentFits}
+use Rattle.causes.specs.Answers.{why}
+use Rattle.causes.specs.Rows.{ShowsAll, rows, laterRows, numberWith}
 
 pub shown : ShowsAll rows
 unfolding explanation clausesFrom textRead recordAt above inWord place clause diagramFrom same? rup pr witnessed valueFrom diagramAt
@@ -22,3 +25,8 @@ pub shown-later : ShowsAll laterRows
 unfolding explanation clausesFrom textRead binaryRead recordAt above inWord place clause diagramFrom same? rup pr pathLine witnessed
     valueFrom diagramAt ℕ-discrete
 shown-later = (refl, (refl, (refl, (refl, (refl, (refl, (refl, (refl, (refl, (refl, (refl, (refl, (refl, (refl, (refl, (refl, (refl, tt)))))))))))))))))
+
+-- 7 before 30: a word or a member too few
+pub seven-first : (numberWith 127 2048 ≡ 7) × (numberWith 128 2047 ≡ 7) × (numberWith 128 2048 ≡ 30)
+unfolding why lentFits sizeFits explanation clausesFrom recordAt above inWord place clause diagramFrom same? rup valueFrom diagramAt ℕ-discrete
+seven-first = (refl, refl, refl)
