@@ -49,7 +49,10 @@ module _ (m n : ℕ) (more : m ≤ n) where
   turn-width : (P N : ℕ → Bool) (ms' : List Diagram) → AllReduced m ms' → (f : Diagram) → Reduced 1 (suc m) f → (fs : List Diagram)
       → pr_turns n P N ms' fs ≡ pr_turns m P N ms' fs → pr_turns n P N ms' (f ∷ fs) ≡ pr_turns m P N ms' (f ∷ fs)
   unfolding pr_turns
-  turn-width P N ms' o' f of fs ih = rw (literals-width m n more P N f of, ih) (go (same h (leaf true)) refl)
+  turn-width P N ms' o' f of fs ih =
+      ap₂ (λ (g : Diagram) (rest : Line). cond (same g (leaf true)) rest
+      (after_turn (unit_prop n (by_diagram n (negation n g) ms')) (g ∷ negation n g ∷ by_diagram n (negation n g) ms') rest))
+      (literals-width m n more P N f of) ih ∙ go (same h (leaf true)) refl
     where
       h : Diagram
       h = cofactor_literals m P N f
