@@ -7,7 +7,7 @@ use shares::{Book, Stage};
 // What is kept for a book. `stage` is 0 before its formula is read, 1 while lines are awaited; any other says that it is bound by `number`
 // at `place`, which no other stage uses. `refuted` is 0 unless a line is the 0 diagram.
 #[repr(C)]
-#[derive(Drop)]
+#[derive(Clone, Copy)]
 pub struct Kept {
     pub share: usize,
     pub stage: u8,
@@ -25,7 +25,7 @@ pub struct Kept {
 // What a book's call says: 02's number and its place, the book's accepted lines, their rounds and its peak, the shared table's count, and
 // what is kept for the book.
 #[repr(C)]
-#[derive(Drop)]
+#[derive(Clone, Copy)]
 pub struct Booked {
     pub number: u8,
     pub place: usize,
@@ -38,7 +38,7 @@ pub struct Booked {
 
 // What the opening says: 02's number, the shared table's count, and what is kept for the books.
 #[repr(C)]
-#[derive(Drop)]
+#[derive(Clone, Copy)]
 pub struct Opening {
     pub number: u8,
     pub count: usize,

@@ -6,7 +6,7 @@ pub mod line;
 
 // What a call says: 02's number and its place, the book's accepted lines, their rounds and its peak, the shared table's count, and what is
 // kept for the book.
-#[derive(Drop)]
+#[derive(Clone, Copy)]
 pub struct Said {
     pub number: u8,
     pub place: usize,

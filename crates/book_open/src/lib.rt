@@ -9,7 +9,7 @@ ghost use Rattle.book_open.specs.Opens.{lists_of, opened_outcome, unopened_said}
 use shares::{Book, Stage};
 
 // What the opening says: 02's number, the shared table's count, and what is kept for the books.
-#[derive(Drop)]
+#[derive(Clone, Copy)]
 pub struct Opened {
     pub number: u8,
     pub count: usize,

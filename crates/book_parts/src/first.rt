@@ -10,7 +10,7 @@ use dimacs::Header;
 use formula::Start;
 
 // All clauses are made; or a number, its place and the greatest count.
-#[derive(Drop)]
+#[derive(Clone, Copy)]
 pub enum First {
     Made {
         variables: u8,

@@ -10,7 +10,7 @@ use records::Record;
 use state::{State, Step};
 
 // How a call's records end: with a number, its place and the greatest count; or with a line accepted, in the state after it.
-#[derive(Drop)]
+#[derive(Clone, Copy)]
 pub enum Ending {
     Ended {
         number: u8,

@@ -17,7 +17,7 @@ use state::State;
 use table::NodeNo;
 
 // The rounds of the last propagation, and the member that was not shown, where the last try has turns.
-#[derive(Drop)]
+#[derive(Clone, Copy)]
 pub struct Failed {
     pub rounds: usize,
     pub has_member: bool,

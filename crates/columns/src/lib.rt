@@ -7,7 +7,7 @@ use table::test::MOST;
 
 // A place of the table.
 #[repr(C)]
-#[derive(Drop)]
+#[derive(Clone, Copy)]
 pub struct Node {
     pub var: u8,
     pub low: u16,

@@ -12,7 +12,7 @@ use records::{EntryNo, NodeBody, Rule};
 // The two variables of 14; the word of 18's assignment; the rounds of 19, and the member that was not shown where one is named. What a
 // number has not is 0.
 #[repr(C)]
-#[derive(Drop)]
+#[derive(Clone, Copy)]
 pub struct Cause {
     pub variable: u8,
     pub child: u8,
@@ -24,7 +24,7 @@ pub struct Cause {
 
 // What the cause is worked out from: nothing, where the number alone tells it; a node record of 14; the root of a PR line of 18; a line of
 // 19; an added clause of 19.
-#[derive(Drop)]
+#[derive(Clone, Copy)]
 pub enum Refused {
     Plain,
     OutOfOrder(NodeBody),

@@ -10,7 +10,7 @@ use dimacs::{Clause, ClosedClause, Token};
 use words::Literals;
 
 // What groups say, 6 where they are cut, and the place behind them.
-#[derive(Drop)]
+#[derive(Clone, Copy)]
 pub struct GroupsRead {
     pub token: Token,
     pub end: usize,

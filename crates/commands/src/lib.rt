@@ -12,7 +12,7 @@ use records::Record;
 use words::Literals;
 
 // The forms of a proof.
-#[derive(Drop)]
+#[derive(Clone, Copy)]
 pub enum Form {
     Records,
     Text,
@@ -20,21 +20,21 @@ pub enum Form {
 }
 
 // How a proof is to be read, and whether in the consequence profile.
-#[derive(Drop)]
+#[derive(Clone, Copy)]
 pub struct Mode {
     pub form: Form,
     pub consequence: bool,
 }
 
 // A clause's first literal; nothing for the empty clause.
-#[derive(Drop)]
+#[derive(Clone, Copy)]
 pub enum Pivot {
     Nothing,
     First { variable: u8, positive: bool },
 }
 
 // A clause of a DRAT proof: the set of its literals, and its pivot.
-#[derive(Drop)]
+#[derive(Clone, Copy)]
 pub struct DratClause {
     pub literals: Literals,
     pub pivot: Pivot,
@@ -42,7 +42,7 @@ pub struct DratClause {
 
 // A record, and whether a byte follows it; a clause added or struck out; a number and a place, counted from the command's first byte; the
 // end of a DRAT proof.
-#[derive(Drop)]
+#[derive(Clone, Copy)]
 pub enum Command {
     Recorded { record: Record, more: bool },
     Added(DratClause),
@@ -52,7 +52,7 @@ pub enum Command {
 }
 
 // A command, and the place of the one that follows it.
-#[derive(Drop)]
+#[derive(Clone, Copy)]
 pub struct Read {
     pub command: Command,
     pub next: usize,

@@ -63,7 +63,7 @@ fn is_asked(vars: &[u8], lows: &[u16], highs: &[u16], count: usize, f: NodeNo, a
 }
 
 // What is found of a node's negation without a memo: none that a list without 0 can have; a node; or nothing is known.
-#[derive(Drop)]
+#[derive(Clone, Copy)]
 enum Negation {
     Unlisted,
     At(NodeNo),
@@ -100,7 +100,7 @@ fn negation_of(
 }
 
 // A place of the asked, or their number; and where it is `found` the node that is the negation of the one there.
-#[derive(Drop)]
+#[derive(Clone, Copy)]
 struct NextNegation {
     place: usize,
     found: bool,
@@ -160,7 +160,7 @@ fn next_negation(
 }
 
 // What asking members for their negations without a memo comes to: a conflict, or none up to a place.
-#[derive(Drop)]
+#[derive(Clone, Copy)]
 enum Asking {
     Conflict,
     UpTo(usize),

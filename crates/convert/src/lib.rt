@@ -8,7 +8,7 @@ pub use from_text::to_binary;
 
 // A conversion's number, its place (0 if not refused) and the result's length.
 #[repr(C)]
-#[derive(Drop)]
+#[derive(Clone, Copy)]
 pub struct Converted {
     pub number: u8,
     pub place: usize,
@@ -16,7 +16,7 @@ pub struct Converted {
 }
 
 // What the clause that stands next comes to: the place behind it and the bytes put so far; or a number and a place.
-#[derive(Drop)]
+#[derive(Clone, Copy)]
 pub enum Written {
     Closed { next: usize, many: usize },
     Refused { number: u8, place: usize },

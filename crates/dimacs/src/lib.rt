@@ -10,7 +10,7 @@ pub use text::{Class, past_class, skip_between};
 use words::Literals;
 
 // A closing 0; a literal's variable and sign; or the number of the token's fault.
-#[derive(Drop)]
+#[derive(Clone, Copy)]
 pub enum Token {
     Closing,
     Literal { variable: u8, positive: bool },
@@ -18,7 +18,7 @@ pub enum Token {
 }
 
 // The variables, the clauses and the end of the header's line; or a number and a place.
-#[derive(Drop)]
+#[derive(Clone, Copy)]
 pub enum Header {
     Proper {
         variables: u8,
@@ -32,7 +32,7 @@ pub enum Header {
 }
 
 // The clause's literals, the place of its first token, and that behind the closing 0.
-#[derive(Drop)]
+#[derive(Clone, Copy)]
 pub struct ClosedClause {
     pub literals: Literals,
     pub first: usize,
@@ -40,7 +40,7 @@ pub struct ClosedClause {
 }
 
 // What comes next: a clause that closes, the end, or a number and a place.
-#[derive(Drop)]
+#[derive(Clone, Copy)]
 pub enum Clause {
     Closed(ClosedClause),
     End,

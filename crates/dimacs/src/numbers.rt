@@ -7,7 +7,7 @@ ghost use Rattle.dimacs.specs.Inner.{capped, digits_after, natural_of, signed_to
 use crate::Token;
 
 // A number with no minus, 1,025 for every one above 1,024; or none.
-#[derive(Drop)]
+#[derive(Clone, Copy)]
 pub enum Natural {
     Value(u16),
     Improper,

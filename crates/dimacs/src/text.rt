@@ -4,7 +4,7 @@ ghost use Rattle.dimacs.specs.Text.{is_space, is_blank, is_parting, past, is_com
 ghost use Rattle.dimacs.specs.Inner.{admitted};
 
 // Classes of bytes.
-#[derive(Drop)]
+#[derive(Clone, Copy)]
 pub enum Class {
     Space,
     Blank,

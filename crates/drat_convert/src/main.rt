@@ -11,7 +11,7 @@ use program::Text;
 const LONGEST: usize = 65536;
 
 // What the first argument names.
-#[derive(Drop)]
+#[derive(Clone, Copy)]
 enum Direction {
     ToBinary,
     ToText,

@@ -33,7 +33,7 @@ pub fn entry_node(scratch: &[u16], entries: usize, e: EntryNo) -> NodeNo
 }
 
 // What the tests of a node record come to: 21, 12, 13 or 14, or the nodes of its two entries.
-#[derive(Drop)]
+#[derive(Clone, Copy)]
 pub enum NodeTest {
     Refused(u8),
     Fits { low: NodeNo, high: NodeNo },

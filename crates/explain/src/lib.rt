@@ -9,7 +9,7 @@ pub use pieces::{Part, shown};
 // start and its end; 14's two variables; 18's assignment, bit i - 1 for variable i; 19's rounds, whose literals are in the list lent for
 // them, and the member that was not shown, if there is one; the table's count.
 #[repr(C)]
-#[derive(Drop)]
+#[derive(Clone, Copy)]
 pub struct Why {
     pub number: u8,
     pub in_proof: bool,

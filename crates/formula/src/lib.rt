@@ -11,7 +11,7 @@ use dimacs::Clause;
 
 // What the formula comes to: how many nodes and how many members there are before the first record; or a number, a place and the greatest
 // count reached.
-#[derive(Drop)]
+#[derive(Clone, Copy)]
 pub enum Start {
     Begun {
         count: usize,

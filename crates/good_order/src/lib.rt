@@ -131,7 +131,7 @@ fn nodes_fit(
 }
 
 // Where the walk down a node's chain comes to it: at the chain's head, behind it, or not.
-#[derive(Drop)]
+#[derive(Clone, Copy)]
 enum Way {
     Head,
     Behind,

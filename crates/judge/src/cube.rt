@@ -11,7 +11,7 @@ use table::NodeNo;
 use words::Literals;
 
 // Whether a diagram is a conjunction of literals, and these.
-#[derive(Drop)]
+#[derive(Clone, Copy)]
 pub struct Cube {
     pub found: bool,
     pub literals: Literals,
@@ -51,7 +51,7 @@ fn literals_of(vars: &[u8], lows: &[u16], highs: &[u16], count: usize, f: NodeNo
 }
 
 // What a cofactor by a node is done by: the operation and its second node, the variables that the results may gain, and those that it sets.
-#[derive(Drop)]
+#[derive(Clone, Copy)]
 pub struct Cofactoring {
     pub op: Operation,
     pub g: NodeNo,

@@ -15,7 +15,7 @@ pub mod rup;
 
 // What judging says: `full` where a node found no room, else whether the line is shown, and its rounds; the count, and the greatest
 // count reached, dropped nodes included.
-#[derive(Drop)]
+#[derive(Clone, Copy)]
 pub struct Judged {
     pub full: bool,
     pub shown: bool,

@@ -18,7 +18,7 @@ use state::State;
 use words::Literals;
 
 // A formula's variables, and a state of its check.
-#[derive(Drop)]
+#[derive(Clone, Copy)]
 pub struct Again {
     pub variables: u8,
     pub state: State,

@@ -15,7 +15,7 @@ use table::{NodeNo, Placed};
 
 // What making diagrams in their order gives: `full` where one of them found no room; how many members of the list were written, which are
 // those that changed; and the count.
-#[derive(Drop)]
+#[derive(Clone, Copy)]
 pub struct Made {
     pub full: bool,
     pub written: usize,
@@ -88,7 +88,7 @@ fn apply_touching(
 
 // What making one member gives: `full` where it found no room, else its node; how often the list was written, once or not at all; and
 // the count.
-#[derive(Drop)]
+#[derive(Clone, Copy)]
 pub struct Replaced {
     pub full: bool,
     pub node: NodeNo,

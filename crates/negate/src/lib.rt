@@ -99,14 +99,14 @@ fn entry_of(f: NodeNo, r: Found) -> u64
 }
 
 // What a walk that gives up where both children are no constants says of a negation: nothing, unless it is known.
-#[derive(Drop)]
+#[derive(Clone, Copy)]
 pub struct Negated {
     pub known: bool,
     pub at: Found,
 }
 
 // The path from a node down to a constant: how many nodes are on it, and the constant. `thin` is false where a node has no constant child.
-#[derive(Drop)]
+#[derive(Clone, Copy)]
 pub struct ThinPath {
     pub thin: bool,
     pub end: NodeNo,
@@ -163,7 +163,7 @@ fn thin_path(
 }
 
 // The two children's negations.
-#[derive(Drop)]
+#[derive(Clone, Copy)]
 pub struct NegatedSides {
     pub low: NodeNo,
     pub high: NodeNo,

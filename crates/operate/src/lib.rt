@@ -12,7 +12,7 @@ use words::Literals;
 pub mod step;
 
 // An operation; an operation of one diagram has node 1 for its second operand.
-#[derive(Drop)]
+#[derive(Clone, Copy)]
 pub enum Operation {
     Conjunction,
     Negation,

@@ -10,7 +10,7 @@ use words::Literals;
 
 // An operation without the literals of a cofactor by literals. The recursion hands the two on apart: a kind goes in a register, and
 // copying an operation whole from call to call is slow.
-#[derive(Drop)]
+#[derive(Clone, Copy)]
 pub enum Kind {
     And,
     Not,
@@ -19,7 +19,7 @@ pub enum Kind {
 }
 
 // The two sides of two nodes by the variable x.
-#[derive(Drop)]
+#[derive(Clone, Copy)]
 pub struct Sides {
     pub x: u8,
     pub f0: NodeNo,
@@ -29,7 +29,7 @@ pub struct Sides {
 }
 
 // What is left to do: the operation on one pair of nodes, or on both sides.
-#[derive(Drop)]
+#[derive(Clone, Copy)]
 pub enum Descent {
     One { f: NodeNo, g: NodeNo },
     Both(Sides),
@@ -229,7 +229,7 @@ pub fn is_beyond(vars: &[u8], kind: Kind, by: Literals, f: NodeNo) -> bool
 }
 
 // A step from two nodes: the result is told; it is that of another pair, where one side makes it; or both sides make it.
-#[derive(Drop)]
+#[derive(Clone, Copy)]
 pub enum Next {
     Told(NodeNo),
     One { f: NodeNo, g: NodeNo },
@@ -267,7 +267,7 @@ fn next_of(
 }
 
 // What the steps of one side lead to: a node that is told, or two sides.
-#[derive(Drop)]
+#[derive(Clone, Copy)]
 pub enum Ahead {
     Told(NodeNo),
     Both(Sides),

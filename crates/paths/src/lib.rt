@@ -10,7 +10,7 @@ use table::NodeNo;
 use words::Literals;
 
 // A node's variable and its two sides.
-#[derive(Drop)]
+#[derive(Clone, Copy)]
 pub struct Branch {
     pub variable: u8,
     pub low: NodeNo,
@@ -18,7 +18,7 @@ pub struct Branch {
 }
 
 // Where the way down last could have gone high: the high side, and the literals up to it.
-#[derive(Drop)]
+#[derive(Clone, Copy)]
 pub struct Fork {
     pub found: bool,
     pub node: NodeNo,
@@ -26,7 +26,7 @@ pub struct Fork {
 }
 
 // A path's literals, where there is one more.
-#[derive(Drop)]
+#[derive(Clone, Copy)]
 pub struct NextPath {
     pub found: bool,
     pub literals: Literals,

@@ -13,7 +13,7 @@ use dimacs::Clause;
 use records::Record;
 
 // A part of the formula or of the proof: where it starts, and the place behind its last byte.
-#[derive(Drop)]
+#[derive(Clone, Copy)]
 pub struct Part {
     pub in_proof: bool,
     pub start: usize,

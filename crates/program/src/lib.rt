@@ -9,7 +9,7 @@ use commands::Mode;
 use libc::STDOUT_FILENO;
 
 // A file: which argument names it, whether it could be read, and how many bytes came, 0 where it could not.
-#[derive(Drop)]
+#[derive(Clone, Copy)]
 pub struct Text {
     pub argument: usize,
     pub read: bool,
@@ -17,7 +17,7 @@ pub struct Text {
 }
 
 // One read: how many bytes came, or `failed`.
-#[derive(Drop)]
+#[derive(Clone, Copy)]
 struct Part {
     failed: bool,
     bytes: usize,

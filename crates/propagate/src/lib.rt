@@ -22,7 +22,7 @@ use unit_search::FirstUnits;
 use words::Literals;
 
 // What a propagation says: `full` where a node found no room, else whether it conflicts, and its rounds; and the count.
-#[derive(Drop)]
+#[derive(Clone, Copy)]
 pub struct Propagated {
     pub full: bool,
     pub conflict: bool,
@@ -31,7 +31,7 @@ pub struct Propagated {
 }
 
 // What comes next in a propagation: its end, or a round by the units of the member at the place.
-#[derive(Drop)]
+#[derive(Clone, Copy)]
 pub enum Next {
     End(bool),
     By { units: Literals, place: usize },

@@ -16,7 +16,7 @@ use unit_search::FirstUnits;
 
 // What one look at a list tells: whether it is quiet, so that no member is 0 or another's negation; and then how many members in front
 // have no unit.
-#[derive(Drop)]
+#[derive(Clone, Copy)]
 pub struct Looked {
     pub quiet: bool,
     pub unitless: usize,

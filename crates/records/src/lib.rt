@@ -3,14 +3,14 @@ ghost use Rattle.std.specs.Prelude.{◌≡◌, ◌+◌, ◌*◌, ◌≤◌, leng
 ghost use Rattle.records.specs.Records.{field, entry_in, node_in, witness_in, line_in, strike_in, set_in, record_at, length_of};
 
 // An entry's number in the proof file. Node numbers of the table are another kind.
-#[derive(Drop)]
+#[derive(Clone, Copy)]
 pub struct EntryNo(pub u16);
 
 // A member's number: clauses from 0 on, then accepted lines. Entries and nodes are numbered apart.
-#[derive(Drop)]
+#[derive(Clone, Copy)]
 pub struct MemberNo(pub u16);
 
-#[derive(Drop)]
+#[derive(Clone, Copy)]
 pub struct NodeBody {
     pub variable: u8,
     pub low: EntryNo,
@@ -18,7 +18,7 @@ pub struct NodeBody {
 }
 
 // The rule by which a line is to be shown.
-#[derive(Drop)]
+#[derive(Clone, Copy)]
 pub enum Rule {
     Rup,
     Pr,
@@ -26,7 +26,7 @@ pub enum Rule {
 }
 
 // What a set's entry wants of the set's true variables.
-#[derive(Drop)]
+#[derive(Clone, Copy)]
 pub enum SetKind {
     // An odd number of them where the byte is 1, an even one where it is 0.
     Parity,
@@ -35,13 +35,13 @@ pub enum SetKind {
 }
 
 // A set of variables, bit i - 1 for variable i, and the byte behind it.
-#[derive(Drop)]
+#[derive(Clone, Copy)]
 pub struct SetBody {
     pub set: u64,
     pub byte: u8,
 }
 
-#[derive(Drop)]
+#[derive(Clone, Copy)]
 pub enum Record {
     NodeEntry(NodeBody),
     // The variable, and what the witness sets it to.
@@ -203,7 +203,7 @@ pub fn record_length(r: Record) -> usize
 }
 
 // The reader of a proof: its bytes, and a place among them.
-#[derive(Drop)]
+#[derive(Clone, Copy)]
 pub struct Reader<'a> {
     pub bytes: &'a [u8],
     pub at: usize,

@@ -9,7 +9,7 @@ use libc::STDERR_FILENO;
 use program::Text;
 
 // What a word names.
-#[derive(Drop)]
+#[derive(Clone, Copy)]
 enum Named {
     Known(Mode),
     Unknown,

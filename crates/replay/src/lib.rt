@@ -10,7 +10,7 @@ use commands::Mode;
 use state::{State, Step};
 
 // How the proof ends: 01's number, its place, the greatest count reached, and the state before the command that ended it.
-#[derive(Drop)]
+#[derive(Clone, Copy)]
 pub struct Ended {
     pub number: u8,
     pub place: usize,

@@ -16,7 +16,7 @@ pub use put::{put_field, put_line};
 const LONGEST: usize = 65536;
 
 // 01's number and its place, the accepted lines, their rounds and the greatest count of the table.
-#[derive(Drop)]
+#[derive(Clone, Copy)]
 pub struct Line {
     pub number: u8,
     pub place: usize,
@@ -27,7 +27,7 @@ pub struct Line {
 
 // How many bytes the line has, and the status to end with.
 #[repr(C)]
-#[derive(Drop)]
+#[derive(Clone, Copy)]
 pub struct Reported {
     pub length: usize,
     pub status: u8,

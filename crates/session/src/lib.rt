@@ -19,7 +19,7 @@ pub mod proof;
 // What the check says: 01's number, whether its place is in the proof (else in the formula), the place, the accepted lines, their rounds,
 // the table's count, and the greatest count reached.
 #[repr(C)]
-#[derive(Drop)]
+#[derive(Clone, Copy)]
 pub struct Checked {
     pub number: u8,
     pub in_proof: bool,

@@ -13,7 +13,7 @@ ghost use Rattle.sets.specs.Counts.{count_of};
 use table::{NodeNo, Placed};
 
 // How many assignments of its set an at-least diagram excludes, where that is counted; 0 where it is not.
-#[derive(Drop)]
+#[derive(Clone, Copy)]
 pub struct Count {
     pub counted: bool,
     pub excluded: u64,

@@ -27,7 +27,7 @@ const PAIRED_4096: usize = 130;
 
 // What a single call says: 01's number, the node (0 with a refusal) and the count.
 #[repr(C)]
-#[derive(Drop)]
+#[derive(Clone, Copy)]
 pub struct Single {
     pub number: u8,
     pub node: NodeNo,

@@ -12,7 +12,7 @@ use table::NodeNo;
 // What the call says: 01's number, the node (0 with a refusal) and the count; whether the excluded assignments are counted, and their
 // number.
 #[repr(C)]
-#[derive(Drop)]
+#[derive(Clone, Copy)]
 pub struct AtLeast {
     pub number: u8,
     pub node: NodeNo,

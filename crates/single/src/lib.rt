@@ -10,7 +10,7 @@ use table::NodeNo;
 
 // What evaluation says: 01's number, yes or no, and the count as lent.
 #[repr(C)]
-#[derive(Drop)]
+#[derive(Clone, Copy)]
 pub struct Evaluated {
     pub number: u8,
     pub yes: bool,

@@ -10,7 +10,7 @@ mod record;
 
 // The state between records: the numbers of members and of the line's entries, the waiting witness, the accepted lines, their rounds, and
 // whether a line is 0 everywhere.
-#[derive(Drop)]
+#[derive(Clone, Copy)]
 pub struct State {
     pub members: usize,
     pub entries: usize,
@@ -21,21 +21,21 @@ pub struct State {
 }
 
 // What a record comes to: the next state; or the number and the place, counted from the record's first byte.
-#[derive(Drop)]
+#[derive(Clone, Copy)]
 pub enum Step {
     Next(State),
     Stop { number: u8, offset: usize },
 }
 
 // The word that a record makes, or a number.
-#[derive(Drop)]
+#[derive(Clone, Copy)]
 pub enum Made {
     Refused(u8),
     Word(u64),
 }
 
 // How the formula ends: so many members, or a number and a place.
-#[derive(Drop)]
+#[derive(Clone, Copy)]
 pub enum Start {
     Begun(usize),
     Refused { number: u8, place: usize },
@@ -43,7 +43,7 @@ pub enum Start {
 
 // The answer: 01's number, whether its place is in the proof (else in the formula), the place, the accepted lines and their rounds.
 #[repr(C)]
-#[derive(Drop)]
+#[derive(Clone, Copy)]
 pub struct SmallChecked {
     pub number: u8,
     pub in_proof: bool,

@@ -4,7 +4,7 @@ use words::Literals;
 // The state between records: the table's count, how many nodes stay if the line is not accepted, the numbers of members and of the
 // line's entries, the waiting witness, the accepted lines, their rounds, the greatest count so far, and whether a line is the 0
 // diagram.
-#[derive(Drop)]
+#[derive(Clone, Copy)]
 pub struct State {
     pub count: usize,
     pub kept: usize,
@@ -19,7 +19,7 @@ pub struct State {
 
 // What a record comes to: the next state; or 01's number and the place, counted from the record's first byte, where no node was made; or
 // 01's number at the record's first byte and the greatest count so far.
-#[derive(Drop)]
+#[derive(Clone, Copy)]
 pub enum Step {
     Next(State),
     Stop { number: u8, offset: usize },

@@ -22,7 +22,7 @@ use words::Literals;
 
 // What the tests of a line come to: 13, 16, 22 or 17 of a RUP line, 13, 22, 17 or 18 of a PR line, a RUP line's or 34 of a path line; or
 // its root's node, to be judged.
-#[derive(Drop)]
+#[derive(Clone, Copy)]
 pub enum LineTest {
     Refused(u8),
     Fits(NodeNo),

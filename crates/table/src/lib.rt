@@ -10,18 +10,18 @@ pub mod test;
 
 // A node's number in the table. Entry numbers of a proof file are another kind.
 #[repr(C)]
-#[derive(Drop)]
+#[derive(Clone, Copy)]
 pub struct NodeNo(pub u16);
 
 // What looking up gives: the place that holds the node, if one does.
-#[derive(Drop)]
+#[derive(Clone, Copy)]
 pub enum Found {
     At(NodeNo),
     Nothing,
 }
 
 // What placing gives: `full` where a new node was wanted and there was no room (`node` is then 0), the node, and the count.
-#[derive(Drop)]
+#[derive(Clone, Copy)]
 pub struct Placed {
     pub full: bool,
     pub node: NodeNo,
@@ -29,7 +29,7 @@ pub struct Placed {
 }
 
 // The same of one node, and whether it took a new place.
-#[derive(Drop)]
+#[derive(Clone, Copy)]
 pub struct NodePlaced {
     pub full: bool,
     pub new: bool,

@@ -20,7 +20,7 @@ use table::NodeNo;
 use words::Literals;
 
 // The lowest member that is not shown, and the rounds of its turn.
-#[derive(Drop)]
+#[derive(Clone, Copy)]
 pub struct Turned {
     pub member: usize,
     pub rounds: usize,

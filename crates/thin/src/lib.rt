@@ -32,7 +32,7 @@ fn settled(vars: &[u8], kind: Kind, by: Literals, f: NodeNo, g: NodeNo) -> Found
 
 // A step down: the result is told; it is that of another pair; it is x over a node that is told, on the low side where `side` is 1, and
 // over the result of another pair; or both sides have more to come.
-#[derive(Drop)]
+#[derive(Clone, Copy)]
 enum StepDown {
     Told(NodeNo),
     One {
@@ -111,7 +111,7 @@ fn step_down(
 }
 
 // What the way down comes to: a node and how many steps are written to put over it, or a step with more to come on both sides.
-#[derive(Drop)]
+#[derive(Clone, Copy)]
 enum Came {
     Down { node: NodeNo, depth: usize },
     TooWide,
@@ -250,7 +250,7 @@ fn build_up(
 }
 
 // What the operation without a memo says: what it made, or `wide`, where it would take a memo and nothing was done.
-#[derive(Drop)]
+#[derive(Clone, Copy)]
 pub struct ThinResult {
     pub wide: bool,
     pub placed: Placed,

@@ -18,7 +18,7 @@ use unit_search::FirstUnits;
 use words::Literals;
 
 // `full` where a node found no room, else the rounds; and the count.
-#[derive(Drop)]
+#[derive(Clone, Copy)]
 pub struct Traced {
     pub full: bool,
     pub rounds: usize,

@@ -52,7 +52,7 @@ pub fn store(turns: &mut [u32], f: NodeNo, rounds: u64)
     turns[c] = (f.0 as u32) * DIGITS + (rounds as u32) + 1;
 }
 
-#[derive(Drop)]
+#[derive(Clone, Copy)]
 pub struct Passed {
     pub place: usize,
     pub rounds: u64,

@@ -9,7 +9,7 @@ use units::AtTop;
 use words::Literals;
 
 // The units by which a round cofactors and the place of the first member that has any, if there is one.
-#[derive(Drop)]
+#[derive(Clone, Copy)]
 pub enum FirstUnits {
     Of { units: Literals, place: usize },
     Nothing,
@@ -35,7 +35,7 @@ fn next_asked(places: &[u16], asked: usize, k: usize, from: usize) -> usize
 
 // What top nodes alone tell of the first units: the units and the place of the first member that has any; or up to where there are none,
 // and how many of the places are before that.
-#[derive(Drop)]
+#[derive(Clone, Copy)]
 enum TopUnits {
     Told { units: Literals, place: usize },
     UpTo { place: usize, k: usize },

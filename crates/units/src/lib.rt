@@ -96,7 +96,7 @@ fn strike_to(alive: Literals, from: u8, p: u8, n: u8) -> Literals
 }
 
 // What a node alone tells of its units.
-#[derive(Drop)]
+#[derive(Clone, Copy)]
 pub enum AtTop {
     Known(Literals),
     Unknown,

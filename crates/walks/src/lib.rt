@@ -43,7 +43,7 @@ pub fn clear_cells(memo: &mut [u64], count: usize)
 }
 
 // The two nodes that a node's cofactor by literals is made from; they are one where its variable has a literal.
-#[derive(Drop)]
+#[derive(Clone, Copy)]
 pub struct SidesUnder {
     pub low: NodeNo,
     pub high: NodeNo,

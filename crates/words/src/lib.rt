@@ -7,7 +7,7 @@ ghost use Rattle.words.specs.Sets.{ends_before, with_variable, below_word, witho
 pub const ALL: u64 = 18446744073709551615;
 
 // A set of literals: the variables that it makes true, and those that it makes false.
-#[derive(Drop)]
+#[derive(Clone, Copy)]
 pub struct Literals {
     pub positive: u64,
     pub negative: u64,
