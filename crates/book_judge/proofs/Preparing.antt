@@ -133,7 +133,7 @@ module _ (T : Table) (l : BookLists) (b : Book) (lent : Lent) (known : List ℕ)
             (found-members (places b) (nodes_of T) (nodes_of after) (good-ordered after A.good) h.members lent.members found'
             (omega (arith, members-long, few, P.room, long)) all_found);
         inside = λ i p. omega (arith, all_found.inside i (omega (arith, p, members-long)), length-nodes after A.good);
-        rest = λ i p. all_found.rest i (omega (arith, p, members-long)) ∙ ap (λ (xs : List ℕ). get_or xs i 0) P.None-found
+        rest = λ i p. all_found.rest i (omega (arith, p, members-long)) ∙ ap (λ (xs : List ℕ). get_or xs i 0) P.none_found
             ∙ zeros-at (length lent.members) i;
         marks = ap (take m) S ∙ subst (λ (k : ℕ). take k (padded (take m l.struck) (length lent.struck)) ≡ take m l.struck)
             marks-long (take-front (take m l.struck) (zeros (length lent.struck - length (take m l.struck))));

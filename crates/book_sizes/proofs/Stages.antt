@@ -71,7 +71,7 @@ first-ready T l b lent known P e none =
         most = omega (arith, P.sized, W.places-in, P.good.most);
         written = P.opened ∙ ap (λ (s : ℕ). indexed s emptied) (sym P.sized);
         room = P.room;
-        none = P.None-found;
+        none = P.none_found;
       };
       unmarked = none;
       own = P.own;

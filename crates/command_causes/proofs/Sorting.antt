@@ -140,8 +140,8 @@ module _ (profile : Bool) (n s : ℕ) (st : State) (number : ℕ) where
   -- ---- commands
 
   -- 33 has no cause.
-  shut_out : Ends (stop 33 0) → has_cause number ≡ false
-  shut_out (early, late) = go (eqb number 19) refl
+  when_shut : Ends (stop 33 0) → has_cause number ≡ false
+  when_shut (early, late) = go (eqb number 19) refl
     where
       go : (a : Bool) → eqb number 19 ≡ a → has_cause number ≡ false
       go true e =
@@ -163,7 +163,7 @@ module _ (profile : Bool) (n s : ℕ) (st : State) (number : ℕ) where
     where
       go : (b : Bool) → shut_out profile r ≡ b → Sorted profile n s st (record_cause n number st r)
           (command_choice number (cond b (Wrong 33 0) (Recorded r more)))
-      go true q = cause-plain profile n number st (recorded r more) (shut_out (subst Ends (step_of r more true q) R))
+      go true q = cause-plain profile n number st (recorded r more) (when_shut (subst Ends (step_of r more true q) R))
       go false q = record-sorted r more (subst Ends (step_of r more false q) R)
   command-sorted (added ls) fits R = go (eqb number 19) refl
     where

@@ -95,18 +95,18 @@ digit-token b lo hi =
       ne_eqb b 10 (λ z. absurd (omega arith)),
     ) refl
 
-is_digit : (b : ℕ) → 48 ≤ b → b ≤ 57 → is_digit b ≡ true
-is_digit b lo hi = rw (le-leb 48 b lo, le-leb b 57 hi) refl
+digit_is : (b : ℕ) → 48 ≤ b → b ≤ 57 → is_digit b ≡ true
+digit_is b lo hi = rw (le-leb 48 b lo, le-leb b 57 hi) refl
 
-digits_of : (v : ℕ) → 1 ≤ v → v ≤ 64 → Digits v (digits_of v)
+digits_said : (v : ℕ) → 1 ≤ v → v ≤ 64 → Digits v (digits_of v)
 unfolding is_digits all_digits value_after
-digits_of v lo hi = go (ltb v 10) refl
+digits_said v lo hi = go (ltb v 10) refl
   where
     go : (b : Bool) → ltb v 10 ≡ b → Digits v (cond b ((48 + v) ∷ []) ((48 + v / 10) ∷ (48 + v % 10) ∷ []))
     go true e =
         let lt : v < 10 = ltb-true v 10 e in
         record {
-          digits = rw (ne_eqb (48 + v) 48 (λ z. absurd (omega arith)), is_digit (48 + v) (omega arith) (omega arith)) refl;
+          digits = rw (ne_eqb (48 + v) 48 (λ z. absurd (omega arith)), digit_is (48 + v) (omega arith) (omega arith)) refl;
           value = omega arith;
           tokens = (digit-token (48 + v) (omega arith) (omega arith), tt);
           first = 48 + v;
@@ -120,8 +120,8 @@ digits_of v lo hi = go (ltb v 10) refl
         record {
           digits = rw (
             ne_eqb (48 + v / 10) 48 (λ z. absurd (omega arith)),
-            is_digit (48 + v / 10) (omega arith) (omega arith),
-            is_digit (48 + v % 10) (omega arith) (omega arith),
+            digit_is (48 + v / 10) (omega arith) (omega arith),
+            digit_is (48 + v % 10) (omega arith) (omega arith),
           ) refl;
           value = omega arith;
           tokens = (digit-token (48 + v / 10) (omega arith) (omega arith), (digit-token (48 + v % 10) (omega arith) (omega arith), tt));
@@ -150,7 +150,7 @@ not-parting b p q r t = rw (ne_eqb b 32 p, ne_eqb b 9 q, ne_eqb b 13 r, ne_eqb b
 token-says : (v : ℕ) (b : Bool) → 1 ≤ v → v ≤ 64 → Says (record { variable = v; positive = b }) (cond b [] (45 ∷ []) ++ digits_of v)
 unfolding token_of is_number is_zero
 token-says v true lo hi =
-    let D : Digits v (digits_of v) = digits_of v lo hi in
+    let D : Digits v (digits_of v) = digits_said v lo hi in
     record {
       says = subst (λ (bs : List ℕ). token_of 64 bs ≡ Literal v true) (sym D.is)
           (plain D.first D.others D.least D.most (subst (λ (bs : List ℕ). is_digits bs ≡ true) D.is D.digits)
@@ -175,7 +175,7 @@ token-says v true lo hi =
         ≡ Literal v true
     plain b bs least most d e = rw (zero-not b bs least, ne_eqb b 45 (λ z. absurd (omega arith)), d, e, le-leb v 64 hi) refl
 token-says v false lo hi =
-    let D : Digits v (digits_of v) = digits_of v lo hi in
+    let D : Digits v (digits_of v) = digits_said v lo hi in
     record {
       says = subst (λ (bs : List ℕ). token_of 64 (45 ∷ bs) ≡ Literal v false) (sym D.is)
           (signed D.first D.others (subst (λ (bs : List ℕ). is_digits bs ≡ true) D.is D.digits)

@@ -66,6 +66,7 @@ to-first (t ∷ ts) last goes k o e = go t.holds refl e (to-first ts last goes k
     go false is q rec = there is (rec q)
 
 from_first : (ts : List Test) (last : Step) (k o : ℕ) → First ts k o → chain ts last ≡ stop k o
+from_first [] last k o x' = elim x' [ ]
 from_first (t ∷ ts) last _ _ (here is) = rw is
 from_first (t ∷ ts) last k o (there is F) = rw is (from_first ts last k o F)
 
@@ -216,6 +217,7 @@ module _ (v : ℕ) (sign : Bool) (k : ℕ) where
       ≡ Wrong j
   two_from b c _ _ (here e) = rw e
   two_from b c _ _ (there e (here f)) = rw (e, f)
+  two_from b c j o (there e (there _ x15)) = elim x15 [ ]
 
 -- A literal of an open clause is refused exactly with the first refusal of its groups' table that holds.
 pub groups-refuse : (n number many last k : ℕ) → (groups_token n number many last ≡ Wrong k) ↔ First
@@ -243,6 +245,7 @@ groups-refuse n number many last k = go (eqb number 0 && eqb many 1) refl
         closes : (j o : ℕ) → First (test false 31 ∷ test far 4 ∷ []) j o → Closing ≡ Wrong j
         closes _ _ (here e) = t≢f (sym e)
         closes _ _ (there e (here f)) = t≢f (sym f ∙ near)
+        closes j o (there e (there _ x16)) = elim x16 [ ]
 
 -- ---- of the call
 

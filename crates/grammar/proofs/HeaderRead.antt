@@ -139,10 +139,10 @@ module _ (s : List ℕ) where
     word-is = rw (eq-eqb (token_end s at) (at + length bs) (past-length s at is_token bs r e a h)) (spells-is bs r at e)
 
   -- The next word stands behind the spaces.
-  next_word : (at : ℕ) (bs : List ℕ) (x : Spaces) (r : List ℕ) → drop at s ≡ bs ++ spacing x r → All is_token bs → Stops is_space r
+  word_passed : (at : ℕ) (bs : List ℕ) (x : Spaces) (r : List ℕ) → drop at s ≡ bs ++ spacing x r → All is_token bs → Stops is_space r
       → drop (next_word s at) s ≡ r
   unfolding next_word
-  next_word at bs x r e a h =
+  word_passed at bs x r e a h =
       past-rest s (token_end s at) is_space (spaces (x.first ∷ x.more) []) r
       (past-rest s at is_token bs (spacing x r) e a (spacing-stops x r) ∙ spaces-then (x.first ∷ x.more) r)
       (spaces-all (x.first ∷ x.more)) h
@@ -199,10 +199,10 @@ module _ (s : List ℕ) where
     wanted = next_word s variables
 
     at-cnf : drop cnf s ≡ from_cnf
-    at-cnf = next_word at (112 ∷ []) h.behind_p from_cnf e (refl, tt) refl
+    at-cnf = word_passed at (112 ∷ []) h.behind_p from_cnf e (refl, tt) refl
 
     at-variables : drop variables s ≡ from_variables
-    at-variables = next_word cnf (99 ∷ 110 ∷ 102 ∷ []) h.behind_cnf from_variables at-cnf (refl, (refl, (refl, tt)))
+    at-variables = word_passed cnf (99 ∷ 110 ∷ 102 ∷ []) h.behind_cnf from_variables at-cnf (refl, (refl, (refl, tt)))
         (number-stops h.variables (spacing h.behind_variables from_clauses))
 
     at_split : drop variables s ≡ number h.variables [] ++ spacing h.behind_variables from_clauses
@@ -210,7 +210,7 @@ module _ (s : List ℕ) where
 
     pub at-clauses : drop wanted s ≡ from_clauses
     at-clauses =
-        next_word variables (number h.variables []) h.behind_variables from_clauses at_split (number-token h.variables)
+        word_passed variables (number h.variables []) h.behind_variables from_clauses at_split (number-token h.variables)
         (number-stops h.clauses (blanks h.behind_clauses r))
 
     variables-word : word s variables ≡ number h.variables []

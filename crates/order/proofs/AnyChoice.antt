@@ -99,16 +99,18 @@ comes-literals (way.none c h) t P N = t≢f (sym t)
 
 -- ---- the theorem
 
-by_units : (n : ℕ) (u : Diagram) (ms ms' : List Diagram) → Contained ms ms'
+within_units : (n : ℕ) (u : Diagram) (ms ms' : List Diagram) → Contained ms ms'
     → Contained (map (cofactor_literals n (λ v. is_unit n u v true) (λ v. is_unit n u v false)) ms) (by_units n u ms')
 unfolding by_units
-by_units n u ms ms' w = within-map _ ms ms' w
+within_units n u ms ms' w = within-map _ ms ms' w
 
 -- A conflict comes by one choice of members: it comes by every choice, in whatever order, and with whatever further members.
 pub conflict-comes : {n : ℕ} {ms ms' : List Diagram} {rounds rounds' : ℕ} {b b' : Bool} → Propagates n ms rounds b → b ≡ true →
     Contained ms ms' → Propagates n ms' rounds' b' → b' ≡ true
 conflict-comes R t w (way.conflict c) = refl
-conflict-comes {n} {ms} {ms'} R t w (way.round u c i h rest) = conflict-comes (comes-literals R t _ _).1 refl (by_units n u ms ms' w) rest
+conflict-comes {n} {ms} {ms'} R t w (way.round u c i h rest) =
+    conflict-comes {ms = map (cofactor_literals n (λ v. is_unit n u v true) (λ v. is_unit n u v false)) ms} (comes-literals R t _ _).1 refl
+      (within_units n u ms ms' w) rest
 conflict-comes {n} {ms} {ms'} R t w (way.none c h) = go R t
   where
     go : {rounds : ℕ} {b : Bool} → Propagates n ms rounds b → b ≡ true → false ≡ true

@@ -28,7 +28,7 @@ found_from i (y ∷ ys) x = go (alike y x) refl (find_from (suc i) ys x) (found_
   where
     go : (b : Bool) → alike y x ≡ b → (o : Option ℕ) → FoundFrom (suc i) ys x o → FoundFrom i (y ∷ ys) x (cond b (some i) o)
     go true e o f = (0, omega arith, omega arith, alike-true y x e)
-    go false e none f = λ k. elim k [ zero ↦ λ p. alike-false y x e | suc k' ↦ λ p. f k' (omega arith) ]
+    go false e none f = λ k. elim k as (λ k. k < length (y ∷ ys) → at (y ∷ ys) k ≢ x) [ zero ↦ λ p. alike-false y x e | suc k' ↦ λ p. f k' (omega arith) ]
     go false e (some m) f = (suc f.0, omega arith, omega arith, f.3)
 
 -- What `find` says of a node: no place from 2 on has it, or the one given.

@@ -1,0 +1,6 @@
+-- `start_of`: the first byte of records, the first token of a text. Assumes nothing.
+use borrow.Author.Rules.{rules}
+use Rattle.commands.proofs.start_of.Goals as goal
+
+pub returns-in-Text : goal.returns-in-Text
+returns-in-Text c = record { value = rw c.in-Text.is c.skip_between.ensures.value; upper_bound = c.skip_between.ensures.lower_bound.1 }

@@ -1,0 +1,16 @@
+-- The walk over the list: what is to be set is what is left to be set. Assumes nothing.
+use mathlib.Core.Path.{◌≡◌, refl, sym, ◌∙◌}
+use Prim.Native.Nat.{◌-◌, ◌≤◌}
+use native.Mathlib.Omega.{arith}
+use lib.ListN.{length, get_or, drop, length-set}
+use borrow.Author.Rules.{rules}
+use Rattle.conflict.specs.Marks.{set_all}
+use Rattle.conflict.proofs.Marks.{set-step, set-end}
+use Rattle.conflict.proofs.set_all.Given as goal
+
+abbrev pub invariant-loop-i : goal.invariant-loop-i
+invariant-loop-i l = (length l.marks ≡ length l.initial.marks) × (l.i ≤ length l.list)
+    × (set_all l.mark l.initial.marks l.list ≡ set_all l.mark l.marks (drop l.i l.list))
+
+abbrev pub decreases-loop-i : goal.decreases-loop-i
+decreases-loop-i l = length l.list - l.i

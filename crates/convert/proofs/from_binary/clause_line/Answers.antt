@@ -1,0 +1,36 @@
+-- `clause_line`: the literals of an added clause, `d` and those of a struck one, or 9. Assumes nothing.
+use mathlib.Core.Path.{refl, subst}
+use Prim.Native.Nat.{◌+◌}
+use mathlib.Core.Bool.{true, false}
+use borrow.Author.Rules.{rules}
+use Rattle.convert.specs.declared.Written.TheVariants.{Refused}
+use Rattle.convert.specs.Convert.{text_literals, text_line}
+use Rattle.convert.specs.Inner.{Opened, poured, LineWritten}
+use Rattle.convert.proofs.Clauses.{binary_rest}
+use Rattle.convert.proofs.Lines.{opened-none, opened-two, binary-adding, binary-striking, binary-unknown}
+use Rattle.convert.proofs.from_binary.clause_line.Goals as goal
+
+pub returns-then-kind-eq97 : goal.returns-then-kind-eq97
+returns-then-kind-eq97 c =
+    let a = c.args in
+    let x = c.clause_literals in
+    subst (λ (y : Opened). LineWritten text_line (poured a.out.now a.many) x.last.1.1.1.0 y x.result)
+    (binary-adding _ _ c.if-kind-eq97.true)
+    (opened-none text_line text_literals false (poured a.out.now a.many) x.last.1.1.1.0
+    (binary_rest a.binary.now a.at (a.at + 1)) x.result (λ ls. refl) x.ensures)
+
+pub returns-then-kind-eq100 : goal.returns-then-kind-eq100
+returns-then-kind-eq100 c =
+    let a = c.args in
+    let x = c.clause_literals-then-kind-eq100 in
+    subst (λ (y : Opened). LineWritten text_line (poured a.out.now a.many) x.last.1.1.1.0 y x.result)
+    (binary-striking _ _ c.if-kind-eq97.false c.if-kind-eq100.true)
+    (opened-two text_line text_literals true (poured a.out.now a.many) x.last.1.1.1.0
+    (binary_rest a.binary.now a.at (a.at + 1)) x.result 100 32 (λ ls. refl) _ _
+    c.put-letter.ensures c.put-opened.ensures x.ensures)
+
+pub returns : goal.returns
+returns c =
+    let a = c.args in
+    subst (λ (x : Opened). LineWritten text_line (poured a.out.now a.many) a.out.now x (Refused 9 a.at))
+    (binary-unknown _ _ c.if-kind-eq97.false c.if-kind-eq100.false) (refl, refl)

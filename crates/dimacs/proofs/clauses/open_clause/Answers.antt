@@ -1,0 +1,67 @@
+-- `open_clause` reads to the closing 0. The loop: what is to be read is what is left to be read, with the literals so far. The measure is
+-- what is left of the text, since a literal has bytes. Assumes nothing.
+use mathlib.Core.Path.{◌≡◌, refl, sym, ◌∙◌}
+use Prim.Native.Nat.{◌≤◌, ◌<◌, ◌-◌}
+use native.Mathlib.Omega.{arith}
+use lib.Seq.{slice}
+use lib.ListN.{length}
+use borrow.Author.Rules.{rules}
+use Rattle.words.specs.Sets.{no_literals}
+use Rattle.dimacs.specs.declared.Token.TheVariants.{Literal}
+use Rattle.dimacs.specs.Numbers.{token_of}
+use Rattle.dimacs.proofs.Tokens.{IsLiteral, literal-bounds}
+use Rattle.dimacs.proofs.OpenClause.{rest_of, rest-open, rest-closing, rest-wrong, rest-literal, literal-moves}
+use Rattle.dimacs.proofs.clauses.open_clause.Reads as reads
+use Rattle.dimacs.proofs.clauses.open_clause.Lts as lts
+use Rattle.dimacs.proofs.clauses.open_clause.Tie as tie
+use Rattle.dimacs.proofs.clauses.open_clause.Goals as goal
+
+literal : (a : lts.After-variable tie.the-claims reads.Pre reads.Post goal.the-invariant-loop-at goal.the-decreases-loop-at tie.handed_clauses)
+    → token_of a.args.variables
+    (slice a.loop-at.at a.past_class-end.result a.args.s.now)
+    ≡ Literal a.in-Literal.variable a.in-Literal.positive
+literal a = sym a.read_token.ensures ∙ a.in-Literal.is
+
+within : (a : lts.After-variable tie.the-claims reads.Pre reads.Post goal.the-invariant-loop-at goal.the-decreases-loop-at tie.handed_clauses)
+    → IsLiteral a.args.variables
+    (slice a.loop-at.at a.past_class-end.result a.args.s.now)
+    a.in-Literal.variable
+within a = literal-bounds _ _ _ _ (literal a)
+
+-- The next token lies behind this one.
+moves : (a : lts.After-variable tie.the-claims reads.Pre reads.Post goal.the-invariant-loop-at goal.the-decreases-loop-at tie.handed_clauses) → a.loop-at.at < a.past_class-end.result
+moves a = literal-moves _ _ _ _ _ _ a.loop-at-test.true a.past_class-end.ensures.value
+    (literal a)
+
+pub loop-at-init : goal.loop-at-init
+loop-at-init c = (omega arith, refl)
+
+pub returns-in-Closing : goal.returns-in-Closing
+returns-in-Closing c = sym
+    (c.loop-at.invariant.1
+    ∙ rest-closing _ _ _ _ _ c.loop-at-test.true _ c.past_class-end.ensures.value
+    (sym c.read_token.ensures ∙ c.in-Closing.is))
+
+pub returns-in-Wrong : goal.returns-in-Wrong
+returns-in-Wrong c = sym
+    (c.loop-at.invariant.1
+    ∙ rest-wrong _ _ _ _ _ c.loop-at-test.true _ c.past_class-end.ensures.value _
+    (sym c.read_token.ensures ∙ c.in-Wrong.is))
+
+pub with_literal-literals-requires : goal.with_literal-literals-requires
+with_literal-literals-requires c = let l = within c.before in (l.least, omega (arith, l.most))
+
+pub loop-at-smaller : goal.loop-at-smaller
+loop-at-smaller c = omega (arith, moves c.before.before.before)
+
+pub loop-at-preserved : goal.loop-at-preserved
+loop-at-preserved c = (
+  omega arith,
+  c.loop-at.invariant.1
+      ∙ rest-literal _ _ _ _ _ c.loop-at-test.true _ c.past_class-end.ensures.value _ _ _
+      _ (literal c.before.before.before) c.skip_between-at.ensures.value
+      c.with_literal-literals.ensures,
+)
+
+pub returns : goal.returns
+returns c = sym (c.loop-at.invariant.1 ∙ rest-open _ _ _ _ _ c.loop-at-test.false)

@@ -1,0 +1,76 @@
+-- `set_step`: the ways out are laws of SetEntries. Assumes nothing.
+use mathlib.Core.Path.{◌≡◌, sym, ap, ◌∙◌}
+use mathlib.Core.List.{List}
+use Prim.Native.Nat.{ℕ}
+use native.Mathlib.Omega.{arith}
+use Rattle.table.specs.Indexed.{Table, table_of, Outcome, outcome_of}
+use Rattle.table.proofs.Outcomes.{place_in, Grown}
+use Rattle.verdict.specs.Steps.{set_diagram}
+use Rattle.state.specs.States.{Lent, lent_of, state_with_entry}
+use Rattle.entries.specs.Tests.{set_refusal}
+use Rattle.entries.proofs.SetEntries.{set-fits, made-grown, set-refused, set_full, set-made}
+use borrow.Author.Rules.{rules}
+use Rattle.entries.proofs.set.set_step.Reads as reads
+use Rattle.entries.proofs.set.set_step.Lts as lts
+use Rattle.entries.proofs.set.set_step.Tie as tie
+use Rattle.entries.proofs.set.set_step.Goals as goal
+
+module _ (s : lts.Start tie.the-claims reads.Pre reads.Post) where
+  abbrev before : Table
+  before = table_of s.args.vars.now s.args.lows.now s.args.highs.now s.args.heads.now s.args.links.now
+      s.args.st.count
+
+module _ (s : lts.Start tie.the-claims reads.Pre reads.Post) (ms ss : List ℕ) where
+  abbrev lent : Lent
+  lent = lent_of s.args.vars.now s.args.lows.now s.args.highs.now s.args.heads.now s.args.links.now ms
+      s.args.scratch.now ss
+
+-- the record is not refused
+module _ (c : lts.Else1 tie.the-claims reads.Pre reads.Post) where
+  none : set_refusal c.args.variables c.args.st.entries c.args.kind
+      c.args.b ≡ 0
+  none = sym c.set_test-number.ensures ∙ c.if-number-ne0.false
+
+-- what making its diagram leaves
+module _ (c : lts.After-set_made tie.the-claims reads.Pre reads.Post) where
+  abbrev begun : tie.Start
+  begun = c.before.before.before.before.before.before.before.before.before.before.before.before.before.before
+
+  abbrev outcome : Outcome
+  outcome = let x = c.set_made-p.new in outcome_of x.0 x.1.0 x.1.1.0 x.1.1.1.0 x.1.1.1.1.0 c.set_made-p.result
+
+  made : outcome ≡ place_in (before begun) (set_diagram 64 begun.args.kind begun.args.b)
+  made = c.set_made-p.ensures
+
+  grown : Grown (before begun) (set_diagram 64 begun.args.kind begun.args.b) outcome
+  grown = made-grown (before begun) begun.pre.good begun.args.kind begun.args.b outcome made
+
+pub returns-then-number-ne0 : goal.returns-then-number-ne0
+returns-then-number-ne0 c = λ ms ss H.
+    set-refused _ (lent c.before.before.before.before.before.before.before.before ms ss) c.args.st c.args.kind c.args.b H _
+    c.set_test-number.ensures c.if-number-ne0.true
+
+pub drop_to-requires : goal.drop_to-requires
+drop_to-requires c =
+    ((grown c.before.before.before.before.before.before.before.before.before.before.before.before.before.before.before.before.before).good, (begun c.before.before.before.before.before.before.before.before.before.before.before.before.before.before.before.before.before).pre.good.least, (grown c.before.before.before.before.before.before.before.before.before.before.before.before.before.before.before.before.before).more)
+
+pub returns-then-p : goal.returns-then-p
+returns-then-p c = λ ms ss H.
+    set_full _ (lent c.before.before.before.before.before.before.before.before.before.before.before.before.before.before.before.before.before.before.before.before.before.before.before.before.before.before.before.before.before.before.before.before.before.before.before.before.before.before.before.before.before.before ms ss) c.args.st c.args.kind c.args.b H (none c.before.before.before.before.before.before.before.before.before.before.before.before.before.before.before.before.before.before.before.before.before.before.before.before.before.before.before.before.before.before.before.before.before.before) (outcome c.before.before.before.before.before.before.before.before.before.before.before.before.before.before.before.before.before.before.before.before.before.before.before.before.before.before.before.before) (made c.before.before.before.before.before.before.before.before.before.before.before.before.before.before.before.before.before.before.before.before.before.before.before.before.before.before.before.before) _
+    c.drop_to.ensures _
+    c.greater-peak.ensures c.if-p.true
+
+pub bounds-scratch-entries : goal.bounds-scratch-entries
+bounds-scratch-entries c =
+    omega (
+      arith,
+      (set-fits c.args.variables c.args.st.entries c.args.kind c.args.b (none c.before.before.before.before.before.before.before.before.before.before.before.before.before.before.before.before.before.before.before)
+          ).few,
+      c.requires.room,
+    )
+
+pub returns : goal.returns
+returns c = λ ms ss H.
+    set-made _ (lent c.before.before.before.before.before.before.before.before.before.before.before.before.before.before.before.before.before.before.before.before.before.before.before.before.before.before.before.before ms ss) c.args.st c.args.kind c.args.b H (none c.before.before.before.before.before.before.before.before.before.before.before.before.before.before.before.before.before.before.before.before) (outcome c.before.before.before.before.before.before.before.before.before.before.before.before.before.before) (made c.before.before.before.before.before.before.before.before.before.before.before.before.before.before)
+    c.if-p.false c.with_entry.result
+    (c.with_entry.ensures ∙ ap (state_with_entry c.args.st (outcome c.before.before.before.before.before.before.before.before.before.before.before.before.before.before).table.count) c.greater-peak.ensures)

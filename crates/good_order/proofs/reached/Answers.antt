@@ -1,0 +1,59 @@
+-- `reached` tells where the walk down a node's chain comes to it. Assumes nothing.
+use mathlib.Core.Logic.{⊎_elim}
+use native.Mathlib.Omega.{arith}
+use borrow.Author.Tests.{eq-eqb, ne_eqb}
+use Rattle.table.specs.Nodes.{alike}
+use Rattle.table.specs.Indexed.{table_of}
+use Rattle.good_order.proofs.Right.{link-less}
+use Rattle.good_order.proofs.Testing.{Walking, walk-past, walk-head, walk_start, walk-next, walk-hit, walk-found, walk_end}
+use borrow.Author.Rules.{rules}
+use Rattle.good_order.proofs.reached.Goals as goal
+
+pub overflow_cast-j : goal.overflow_cast-j
+overflow_cast-j c = omega (arith, c.shared_slice_known-9-1.given c.bucket_of-b.result)
+
+pub returns-then-count-j : goal.returns-then-count-j
+returns-then-count-j c = walk-past _ c.requires.lent_sizes.0 c.requires.nodes_fit _ _ c.bucket_of-b.ensures.upper_bound
+    c.bucket_of-b.ensures.value c.if-count-j.true
+
+pub returns-then-j-k : goal.returns-then-j-k
+returns-then-j-k c = walk-head _ c.requires.lent_sizes.0 c.requires.nodes_fit _ _ c.bucket_of-b.ensures.value
+    c.if-j-k.true
+
+pub loop-j-init : goal.loop-j-init
+loop-j-init c = walk_start _ c.requires.lent_sizes.0 c.requires.nodes_fit _ _ c.bucket_of-b.ensures.value
+    (omega (arith, c.if-count-j.false)) c.if-j-k.false
+
+pub returns-then-highs-j : goal.returns-then-highs-j
+unfolding alike
+returns-then-highs-j c = walk-hit _ c.requires.lent_sizes.0 c.requires.nodes_fit _ _ c.loop-j-test.true
+    c.loop-j.invariant (rw (
+      eq-eqb _ _ c.if-vars-j.true,
+      c.if-lows-j.true-raw,
+      c.if-highs-j.true-raw,
+    ))
+
+pub overflow_cast-j-in-loop-j : goal.overflow_cast-j-in-loop-j
+overflow_cast-j-in-loop-j c = omega (arith, c.shared_slice_known-in-loop-j-2-1.given c.loop-j.j)
+
+pub loop-j-smaller : goal.loop-j-smaller
+loop-j-smaller c = let a = c.args in
+    link-less (table_of a.vars.now a.lows.now a.highs.now a.heads.now a.links.now a.count)
+    c.requires.nodes_fit _
+    (omega (arith, c.loop-j-test.true, c.requires.lent_sizes.1))
+    c.loop-j.invariant.below
+
+pub loop-j-preserved : goal.loop-j-preserved
+unfolding alike
+loop-j-preserved c = let next = walk-next _ c.requires.lent_sizes.0 c.requires.nodes_fit _ _
+    c.requires.lent_sizes.1 c.loop-j-test.true c.loop-j.invariant in
+    ⊎_elim (λ w. next (rw (eq-eqb _ _ w.0.taken, w.2.taken, w.4.left)))
+    (λ w. ⊎_elim (λ u. next (rw (eq-eqb _ _ u.0.taken, u.2.left))) (λ u. next (rw (ne_eqb _ _ u.left))) w) c.else-vars-j.branch
+
+pub returns-then-j-k-2 : goal.returns-then-j-k-2
+returns-then-j-k-2 c = walk_end _ c.requires.lent_sizes.0 c.requires.nodes_fit _ _
+    (omega (arith, c.if-j-k-2.true, c.requires.lent_sizes.1)) c.loop-j.invariant
+
+pub returns : goal.returns
+returns c = walk-found _ c.requires.lent_sizes.0 c.requires.nodes_fit _ _ c.loop-j.invariant
+    (omega (arith, c.loop-j-test.false, c.if-j-k-2.false))

@@ -1,0 +1,21 @@
+-- The zeros are counted one after another. Assumes nothing.
+use mathlib.Core.Logic.{⊎_elim}
+use Prim.Native.Nat.{◌+◌, ◌-◌, ◌≤◌}
+use mathlib.Core.Path.{◌≡◌, ap, ◌∙◌}
+use native.Mathlib.Omega.{arith}
+use borrow.Author.Rules.{rules}
+use Rattle.good_order.specs.Tested.{zeros_in}
+use Rattle.good_order.proofs.Counting.{zeros-more, zeros-as-before}
+use Rattle.good_order.proofs.zeros.zeros_between.Goals as goal
+
+pub loop-i-preserved : goal.loop-i-preserved
+loop-i-preserved c =
+    ⊎_elim
+    (λ y. (search rules, search rules, omega (arith, c.loop-i.invariant.2, zeros-more c.args.column.now c.loop-i.i y.0.taken)))
+    (λ y. (search rules, search rules, omega (arith, c.loop-i.invariant.2, zeros-as-before c.args.column.now c.loop-i.i y.0.left)))
+    c.if-column-i-eq0.branch
+
+pub returns : goal.returns
+returns c =
+    let e : c.loop-i.i ≡ c.args.to = omega (arith, c.loop-i-test.false) in
+    c.loop-i.invariant.2 ∙ ap (zeros_in c.args.column.now) e

@@ -1,0 +1,15 @@
+-- The zeros are counted one after another. Assumes nothing.
+use mathlib.Core.Logic.{⊎_elim}
+use Prim.Native.Nat.{◌+◌, ◌-◌, ◌≤◌}
+use mathlib.Core.Path.{◌≡◌, ap, ◌∙◌}
+use native.Mathlib.Omega.{arith}
+use borrow.Author.Rules.{rules}
+use Rattle.good_order.specs.Tested.{zeros_in}
+use Rattle.good_order.proofs.Counting.{zeros-more, zeros-as-before}
+use Rattle.good_order.proofs.zeros.zeros_between.Given as goal
+
+abbrev pub invariant-loop-i : goal.invariant-loop-i
+invariant-loop-i l = (l.from + l.zeros ≤ l.i) × (l.i ≤ l.to) × (zeros_in l.column l.from + l.zeros ≡ zeros_in l.column l.i)
+
+abbrev pub decreases-loop-i : goal.decreases-loop-i
+decreases-loop-i l = l.to - l.i

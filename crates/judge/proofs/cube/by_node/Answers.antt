@@ -1,0 +1,11 @@
+-- A conjunction of literals is one by its literals; else the node's own. Assumes nothing.
+use borrow.Author.Rules.{rules}
+use Rattle.judge.proofs.CubeWalks.{cube-by-node}
+use Rattle.judge.proofs.cube.by_node.Goals as goal
+
+pub returns-then-cube : goal.returns-then-cube
+returns-then-cube c =
+    let a = c.args in
+    let y = c.literals_of-cube in
+    cube-by-node a.vars.now a.lows.now a.highs.now a.count c.requires.0 a.n.0 c.requires.1 y.result.literals
+    (y.ensures c.if-cube.true)

@@ -1,0 +1,14 @@
+-- `lookup` finds by the index what the walk from place 2 finds: the loop goes down one chain (Chain). Assumes nothing.
+use Rattle.std.proofs.Common.{sym, ap, ⊎_elim, rules, eq-eqb, ne_eqb}
+use Rattle.table.specs.Nodes.{node_of, alike}
+use Rattle.table.specs.Indexed.{table_of, found_of}
+use Rattle.table.proofs.Chain.{Chain, chain-start, chain-less, chain_next, chain-hit, chain-end}
+use Rattle.table.proofs.lookup.Given as goal
+
+abbrev pub invariant-loop-k : goal.invariant-loop-k
+invariant-loop-k l =
+    Chain (table_of l.vars l.lows l.highs l.heads l.links l.count) (node_of l.v l.l.0 l.h.0) l.k
+
+abbrev pub decreases-loop-k : goal.decreases-loop-k
+decreases-loop-k l =
+    l.k

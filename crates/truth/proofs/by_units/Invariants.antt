@@ -1,0 +1,16 @@
+-- `by_units` goes down the variables: what is left to be done is what is to be done. Assumes nothing.
+use borrow.Author.Rules.{rules}
+use mathlib.Core.Path.{◌≡◌, sym, ◌∙◌}
+use mathlib.Core.Bool.{true, false}
+use Prim.Native.Nat.{◌≤◌}
+use native.Mathlib.Omega.{arith}
+use Rattle.truth.specs.Tables.{by_literals, word_unit}
+use Rattle.truth.proofs.Forms.{literals-step, literals-last, units-is}
+use Rattle.truth.proofs.by_units.Given as goal
+
+abbrev pub invariant-loop-v : goal.invariant-loop-v
+invariant-loop-v l = (l.v ≤ 6) × (by_literals l.v (λ l.v. word_unit l.u l.v true) (λ l.v. word_unit l.u l.v false) l.value ≡ by_literals 6
+    (λ l.v. word_unit l.u l.v true) (λ l.v. word_unit l.u l.v false) l.w)
+
+abbrev pub decreases-loop-v : goal.decreases-loop-v
+decreases-loop-v l = l.v

@@ -1,0 +1,14 @@
+-- The walk over the members: those passed have their turns stored, and their rounds are counted. Assumes nothing.
+use Prim.Native.Nat.{◌-◌, ◌*◌, ◌≤◌, ◌<◌}
+use native.Mathlib.Omega.{arith}
+use lib.ListN.{length}
+use borrow.Author.Rules.{rules}
+use Rattle.turn_memo.specs.Turns.{Passes, here}
+use Rattle.turn_memo.proofs.Known.{passes-told}
+use Rattle.turn_memo.proofs.pass_stored.Given as goal
+
+abbrev pub invariant-loop-i : goal.invariant-loop-i
+invariant-loop-i l = Passes l.members l.turns l.from l.rounds l.i l.sum × (l.sum ≤ 127 * l.i)
+
+abbrev pub decreases-loop-i : goal.decreases-loop-i
+decreases-loop-i l = length l.members - l.i
