@@ -1,4 +1,6 @@
 // Binomials read from a stored table, and the number of assignments that "at least k" excludes.
+#![tactic(auto)]
+
 mod stored;
 
 ghost use Rattle.std.specs.Prelude.{◌≡◌, ◌≤◌, min};

@@ -1,4 +1,6 @@
 // The call of one of two rule books on one table: 7, 26, else the call over working arrays. (02, 10/14)
+#![tactic(auto)]
+
 ghost use Rattle.std.specs.Prelude.{◌≡◌, ◌≤◌, length};
 ghost use Rattle.table.specs.Columns.{columns_made};
 ghost use Rattle.shares.specs.Books.{holding_fits, holding, book_outcome};

@@ -1,4 +1,6 @@
 // What a caller keeps for a book, and what the calls of two books say, as structs for Rust and C. (02, 10/14)
+#![tactic(auto)]
+
 ghost use Rattle.std.specs.Prelude.{◌≡◌};
 ghost use Rattle.book_kept.specs.Kept.{stage_of, book_of, bound_byte, flag_byte, kept_with, kept_as, opened_kept, kept_opened};
 

@@ -1,4 +1,6 @@
 // A book's later call once its own table is made again; what every call says and keeps. (02, 10/14)
+#![tactic(auto)]
+
 use shares::Book;
 
 pub mod back;

@@ -1,4 +1,6 @@
 // One table opened for two rule books: 7, 32, else table and lists emptied for both. (02, 10/14)
+#![tactic(auto)]
+
 ghost use Rattle.std.specs.Prelude.{◌≡◌, ◌+◌, length, leb};
 ghost use Rattle.table.specs.Columns.{columns_made};
 ghost use Rattle.verdict.specs.Check.{zeros};

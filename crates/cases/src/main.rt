@@ -1,4 +1,6 @@
 // Document 01's examples through the face: a line for each, its label and then the numbers that came.
+#![tactic(auto)]
+
 mod checks;
 mod singles;
 

@@ -1,4 +1,6 @@
 // The cause of what a check refuses with 14, 18 or 19, over what it leaves. (02, 8/14)
+#![tactic(auto)]
+
 ghost use Rattle.std.specs.Prelude.{◌≡◌, true, ◌≤◌, length};
 ghost use Rattle.walks.specs.Readable.{Roomy};
 ghost use Rattle.conflict.specs.Marks.{unmarked};

@@ -1,5 +1,7 @@
 // Document 02's examples through the face, in the order in which its requests landed: a line for each, its label and then the numbers that
 // came.
+#![tactic(auto)]
+
 mod comments;
 mod indexes;
 mod orders;

@@ -1,4 +1,6 @@
 // The call of the whole check: 7 by the sizes, else working arrays as large as table and proof need.
+#![tactic(auto)]
+
 ghost use Rattle.std.specs.Prelude.{◌≡◌, true, ◌≤◌, length};
 ghost use Rattle.table.specs.Columns.{columns_made};
 ghost use Rattle.verdict.specs.Check.{verdict, lent_fits, outcome, check};

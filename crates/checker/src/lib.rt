@@ -1,4 +1,6 @@
 // The public calls of the library, open to others. Each tests for itself all that it needs, and none has a `requires`.
+#![tactic(auto)]
+
 ghost use Rattle.std.specs.Prelude.{◌≡◌, length};
 ghost use Rattle.checker.specs.Forms.{form_of};
 ghost use Rattle.commands.specs.Commands.{in_form, in_records, in_text};

@@ -1,4 +1,6 @@
 // A clause's diagram made in the table from the set of its literals, or found there.
+#![tactic(auto)]
+
 mod search;
 
 ghost use Rattle.std.specs.Prelude.{◌≡◌, cond, ◌≤◌, length};

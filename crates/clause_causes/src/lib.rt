@@ -1,4 +1,6 @@
 // The cause of an added clause that is refused with 19, from its last try. (02, 8/14)
+#![tactic(auto)]
+
 ghost use Rattle.std.specs.Prelude.{◌≡◌, ◌≤◌, length, take};
 ghost use Rattle.table.specs.Indexed.{table_of, nodes_of};
 ghost use Rattle.walks.specs.Readable.{Roomy};

@@ -1,4 +1,6 @@
 // Columns and lists made all zero.
+#![tactic(auto)]
+
 ghost use Rattle.std.specs.Prelude.{◌≡◌, length, replicate};
 
 pub fn clear_bytes(bytes: &mut [u8])

@@ -1,4 +1,6 @@
 // Between the slice of node structs and three columns.
+#![tactic(auto)]
+
 ghost use Rattle.std.specs.Prelude.{◌≡◌, ◌++◌, ◌≤◌, length, take, drop};
 ghost use Rattle.columns.specs.Slice.{vars_of, lows_of, highs_of};
 ghost use Rattle.columns.specs.Inner.{as_nodes};

@@ -1,4 +1,6 @@
 // The true cause of 14, 18 and 19 in numbers, of the command that is refused, by rule, record and command. (02, 8/14)
+#![tactic(auto)]
+
 mod choice;
 pub mod command;
 mod line;

@@ -1,4 +1,6 @@
 // What stands next in a proof, in each of its forms. (01, The proof; 02, 4/14 and 9/14)
+#![tactic(auto)]
+
 mod binary;
 mod text;
 

@@ -1,4 +1,6 @@
 // Whether a list of nodes conflicts: a member is 0 or the negation of another.
+#![tactic(auto)]
+
 ghost use Rattle.std.specs.Prelude.{◌≡◌, List, ℕ, ◌≤◌, ◌<◌, length};
 ghost use Rattle.meaning.specs.Rules as rules;
 ghost use Rattle.table.specs.Indexed.{table_of, nodes_of, Good};

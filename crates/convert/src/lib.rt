@@ -1,4 +1,6 @@
 // DRAT text to binary DRAT and back. The calls test for themselves all that they need, and neither has a `requires`. (02, 9/14)
+#![tactic(auto)]
+
 mod from_binary;
 mod from_text;
 mod output;

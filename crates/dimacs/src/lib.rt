@@ -1,4 +1,6 @@
 // The formula: its header, and its clauses one at a time; and its tokens, for texts that are parted likewise. (01, The formula)
+#![tactic(auto)]
+
 mod clauses;
 mod header_line;
 mod numbers;

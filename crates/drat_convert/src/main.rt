@@ -1,5 +1,7 @@
 // Converts a DRAT proof between text and binary: `drat_convert to-binary|to-text FILE`. Prints one line, number, place and length, and
 // behind it so many bytes, the result. For any other word it prints nothing, and what it takes on standard error. (02, 9/14)
+#![tactic(auto)]
+
 ghost use Rattle.std.specs.Prelude.{◌≡◌, ◌++◌, ◌≤◌, length, take};
 ghost use Rattle.drat_convert.specs.Converting.{same_bytes, direction_named, conversion_line, written_for};
 

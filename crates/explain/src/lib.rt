@@ -1,4 +1,6 @@
 // Why a check refuses: its number, the offending piece and the true cause. (02, 8/14)
+#![tactic(auto)]
+
 pub mod call;
 mod linked;
 

@@ -1,4 +1,6 @@
 // The formula's clauses made in the emptied table; their nodes are the members.
+#![tactic(auto)]
+
 ghost use Rattle.std.specs.Prelude.{◌≡◌, List, [], ℕ, ◌≤◌, length};
 ghost use Rattle.dimacs.specs.Clauses.{clauses_from};
 ghost use Rattle.table.specs.Indexed.{table_of};

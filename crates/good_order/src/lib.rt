@@ -1,4 +1,6 @@
 // Whether a lent table and its index are in good order, decided by reading alone.
+#![tactic(auto)]
+
 ghost use Rattle.std.specs.Prelude.{◌≡◌, true, ◌-◌, ◌≤◌, ◌<◌, length, take, drop};
 ghost use Rattle.table.specs.Nodes.{at, all_blank, fits};
 ghost use Rattle.table.specs.Index.{good_order};

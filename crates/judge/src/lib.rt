@@ -1,4 +1,6 @@
 // Lines over a table, its members and lists to work in: what a RUP line and a PR line share.
+#![tactic(auto)]
+
 ghost use Rattle.std.specs.Prelude.{◌≡◌, false, ◌≤◌, length};
 ghost use Rattle.table.specs.Nodes.{diagram_at};
 ghost use Rattle.table.specs.Indexed.{table_of, nodes_of};

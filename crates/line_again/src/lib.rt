@@ -1,4 +1,6 @@
 // The state before a refused command, made again from what the check leaves. (02, 8/14)
+#![tactic(auto)]
+
 ghost use Rattle.std.specs.Prelude.{◌≡◌, true, ℕ, ◌≤◌, length};
 ghost use Rattle.walks.specs.Readable.{Roomy};
 ghost use Rattle.dimacs.specs.Header.{header};

@@ -1,4 +1,6 @@
 // A list's members replaced by an operation's results on them.
+#![tactic(auto)]
+
 ghost use Rattle.std.specs.Prelude.{◌≡◌, ◌<◌, length, get_or, false};
 ghost use Rattle.table.specs.Nodes.{diagram_at};
 ghost use Rattle.table.specs.Indexed.{table_of, nodes_of, outcome_of};

@@ -4,6 +4,8 @@
 // forgotten is what has not been asked for a while. Where so much is forgotten that work is done again and again, only every
 // step-th depth's results are held, so that the work is bounded by the cells times 2 to the step, and not by the number of
 // paths.
+#![tactic(auto)]
+
 ghost use Rattle.std.specs.Prelude.{◌≡◌, ◌+◌, ◌<◌, ◌≤◌, ◌⊎◌, length};
 ghost use Rattle.memo.specs.Memo.{live, Shaped, EmptyMemo, told_by, Tells, Cleared, Moved, Follows, Stores};
 

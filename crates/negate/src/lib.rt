@@ -1,4 +1,6 @@
 // The number of a node's negation where the table holds it, with a memo. Places no node.
+#![tactic(auto)]
+
 ghost use Rattle.std.specs.Prelude.{◌≡◌, true, ◌≤◌, ◌<◌, length};
 ghost use Rattle.table.specs.Indexed.{table_of, Good};
 ghost use Rattle.walks.specs.Readable.{Readable};

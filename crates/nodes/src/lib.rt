@@ -1,5 +1,7 @@
 // The single calls over the node table as one lent slice of node structs, with its index; crate `node_check` has the check. Each tests for
 // itself all that it needs, and none has a `requires`.
+#![tactic(auto)]
+
 mod within;
 
 ghost use Rattle.std.specs.Prelude.{◌≡◌};

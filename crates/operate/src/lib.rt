@@ -1,6 +1,8 @@
 // Conjunction, negation and the two cofactors by one recursion over the nodes of a table, with a memo.
 // The memo first; then the steps of one side down to a node that is told or to two sides; these by the recursion, and one store into the
 // memo at the end.
+#![tactic(auto)]
+
 ghost use Rattle.std.specs.Prelude.{◌≡◌, ◌<◌};
 ghost use Rattle.table.specs.Indexed.{table_of, outcome_of};
 ghost use Rattle.operate.specs.Inner.{applied, joined_of, operation_of, Shared, MemoRight, Ready, SidesReady};

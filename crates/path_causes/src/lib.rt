@@ -1,4 +1,6 @@
 // A path line that is refused with 19: the literals that the propagation of its first failing path fixes. (02, 8/14 and 12/14)
+#![tactic(auto)]
+
 ghost use Rattle.std.specs.Prelude.{◌≡◌, ◌≤◌, length, take};
 ghost use Rattle.table.specs.Nodes.{diagram_at};
 ghost use Rattle.table.specs.Indexed.{table_of, nodes_of};

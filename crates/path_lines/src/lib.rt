@@ -1,5 +1,7 @@
 // A path line over a table, its members and lists to work in: for each path of the root to 0, low side first, the members by its
 // literals, propagated. (02, 12/14)
+#![tactic(auto)]
+
 ghost use Rattle.std.specs.Prelude.{◌≡◌, false, ◌≤◌, length};
 ghost use Rattle.table.specs.Nodes.{diagram_at};
 ghost use Rattle.table.specs.Indexed.{table_of, nodes_of};

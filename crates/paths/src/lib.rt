@@ -1,4 +1,6 @@
 // The paths of a diagram to 0, low side first: how many there are, the first, and the one after another. Nothing is placed.
+#![tactic(auto)]
+
 ghost use Rattle.std.specs.Prelude.{◌≡◌, ◌-◌, ◌≤◌, ◌<◌};
 ghost use Rattle.table.specs.Nodes.{diagram_at};
 ghost use Rattle.walks.specs.Readable.{Readable, nodes_in};

@@ -1,4 +1,6 @@
 // The piece of the formula or of the proof that is shown for a refused check, as a part of the caller's own bytes. (02, 8/14)
+#![tactic(auto)]
+
 ghost use Rattle.std.specs.Prelude.{◌≡◌, true, ◌-◌, ◌≤◌, length, drop};
 ghost use Rattle.dimacs.specs.Text.{is_parting, token_end, line_end};
 ghost use Rattle.dimacs.specs.Clauses.{clause_from};

@@ -1,4 +1,6 @@
 // A PR line: the members by not-g, and then each member's turn over them.
+#![tactic(auto)]
+
 ghost use Rattle.std.specs.Prelude.{◌≡◌, ◌*◌, ◌≤◌, length};
 ghost use Rattle.meaning.specs.Rules.{pr_turns, pr};
 ghost use Rattle.meaning.specs.Words.{in_word};

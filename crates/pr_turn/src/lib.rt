@@ -1,4 +1,6 @@
 // One member's turn of a PR line.
+#![tactic(auto)]
+
 ghost use Rattle.std.specs.Prelude.{◌≡◌, [], ◌∷◌, ◌≤◌, ◌<◌, length};
 ghost use Rattle.meaning.specs.Rules.{pr_turns};
 ghost use Rattle.meaning.specs.Words.{in_word};

@@ -1,5 +1,7 @@
 // The consequence profile: "only RUP lines and strikings pass, and DRAT clauses only by their first try"; path lines pass too. (02, 11/14
 // and 12/14)
+#![tactic(auto)]
+
 ghost use Rattle.std.specs.Prelude.{◌≡◌, cond};
 ghost use Rattle.commands.specs.declared.Command.TheVariants.{Recorded, Wrong};
 ghost use Rattle.verdict.specs.Check.{is_pr, is_pr_line, shut_out};

@@ -1,6 +1,8 @@
 // What the programs share: two files read, formula then proof, and one line written. What the line is for the bytes that were read is
 // proved (crate `report`), and so is which argument names which file; here are the reads, whose bytes no contract can speak of, and the
 // one write.
+#![tactic(auto)]
+
 ghost use Rattle.std.specs.Prelude.{◌≡◌, ◌≤◌, length};
 ghost use Rattle.report.specs.Line.{line_bytes};
 ghost use Rattle.report.specs.Files.{said};

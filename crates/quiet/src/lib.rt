@@ -1,5 +1,7 @@
 // Lists that have most members of one that was looked at before: where no member of that one is 0 or another's negation, only those that
 // differ are asked.
+#![tactic(auto)]
+
 ghost use Rattle.std.specs.Prelude.{◌≡◌, ◌≤◌, length, take};
 ghost use Rattle.meaning.specs.Rules.{unit_prop};
 ghost use Rattle.table.specs.Indexed.{table_of, nodes_of};

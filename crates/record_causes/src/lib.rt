@@ -1,4 +1,6 @@
 // The cause of 14 and of 18, from the record that is refused. (02, 8/14)
+#![tactic(auto)]
+
 ghost use Rattle.std.specs.Prelude.{◌≡◌, false, List, ◌∷◌, ℕ, ◌+◌, ◌≤◌, ◌<◌, length, get_or, take};
 ghost use Rattle.meaning.specs.Words.{in_word, assignment_of};
 ghost use Rattle.table.specs.Nodes.{diagram_at};

@@ -1,4 +1,6 @@
 // The records of a proof file: the one that stands at a place of its bytes.
+#![tactic(auto)]
+
 ghost use Rattle.std.specs.Prelude.{◌≡◌, ◌+◌, ◌*◌, ◌≤◌, length};
 ghost use Rattle.records.specs.Records.{field, entry_in, node_in, witness_in, line_in, strike_in, set_in, record_at, length_of};
 

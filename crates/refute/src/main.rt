@@ -1,4 +1,6 @@
 // Checks a proof in records: two file names, formula then proof; prints one line: number, place, accepted lines, rounds, peak.
+#![tactic(auto)]
+
 use commands::{Form, Mode};
 
 fn main() {

@@ -1,4 +1,6 @@
 // Checks a DRAT text: two file names, formula then proof; prints the same line as `refute`. (02, 4/14)
+#![tactic(auto)]
+
 use commands::{Form, Mode};
 
 fn main() {

@@ -1,6 +1,8 @@
 // Checks a proof in the form and the profile that the third argument names: `r`, `t` or `b` (records, DRAT text, binary DRAT), with a `c`
 // behind it for the consequence profile. The first two arguments are the file names, formula then proof; it prints the same line as
 // `refute`. For any other word it prints nothing, and what it takes on standard error.
+#![tactic(auto)]
+
 ghost use Rattle.std.specs.Prelude.{◌≡◌};
 ghost use Rattle.refute_in.specs.Words.{form_named, mode_named};
 

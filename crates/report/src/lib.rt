@@ -1,5 +1,7 @@
 // What the programs report: the verdict on two files, its line of bytes and the status to end with. The programs, the exported calls and
 // the hosts over them share this, so that the line and the status are proved once and nobody formats or maps them again.
+#![tactic(auto)]
+
 mod put;
 
 ghost use Rattle.std.specs.Prelude.{◌≡◌, length, take, drop};

@@ -1,5 +1,7 @@
 // The report over a table of the caller's, in the form and the profile that the caller names: the line of `report` and its status, from
 // lent columns, index and lists.
+#![tactic(auto)]
+
 ghost use Rattle.std.specs.Prelude.{◌≡◌, length, take, drop};
 ghost use Rattle.checker.specs.Forms.{form_of};
 ghost use Rattle.commands.specs.Commands.{in_form};

@@ -1,1 +1,2 @@
 // A check that is not refused for room gives the same result with more room: theorems, no code.
+#![tactic(auto)]

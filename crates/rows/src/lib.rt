@@ -1,6 +1,8 @@
 // A row of the examples: a call through the face, and the line that the programs `cases` and `changes` print of it. A check's line has
 // label, number, place, accepted lines, rounds, count and peak; a single call's label, number, node (evaluation: 1 for yes, 0 for no) and
 // count.
+#![tactic(auto)]
+
 pub mod print;
 
 use session::Checked;

@@ -1,4 +1,6 @@
 // The whole check over working arrays that are lent: the table emptied, the clauses made, the commands judged, the rest dropped.
+#![tactic(auto)]
+
 ghost use Rattle.std.specs.Prelude.{◌≡◌, true, [], ◌≤◌, length};
 ghost use Rattle.dimacs.specs.Clauses.{clauses_from};
 ghost use Rattle.table.specs.Columns.{columns_made};

@@ -1,4 +1,6 @@
 // Either-or and at-least diagrams made in the table from the word of their set, and how much an at-least one excludes. (02, 5/14)
+#![tactic(auto)]
+
 mod diagonals;
 mod odd_even;
 mod variables;

@@ -1,1 +1,2 @@
 // Sessions of two books by computation.
+#![tactic(auto)]

@@ -1,4 +1,6 @@
 // The five single calls, with the table and its index alone lent.
+#![tactic(auto)]
+
 pub mod call;
 pub mod least;
 

@@ -1,4 +1,6 @@
 // The check of a formula of at most six variables by truth table: each function is a 64-bit word, and there are no nodes. (02, 14/14)
+#![tactic(auto)]
+
 use words::Literals;
 
 pub mod call;

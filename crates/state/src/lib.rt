@@ -1,4 +1,6 @@
 // The state between records, and what a record comes to.
+#![tactic(auto)]
+
 use words::Literals;
 
 // The state between records: the table's count, how many nodes stay if the line is not accepted, the numbers of members and of the

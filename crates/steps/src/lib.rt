@@ -1,4 +1,6 @@
 // One record of a proof: the next state, or the number and the place of the proof's end.
+#![tactic(auto)]
+
 ghost use Rattle.std.specs.Prelude.{◌≡◌, ℕ, length};
 ghost use Rattle.verdict.specs.Steps.{end_step};
 ghost use Rattle.verdict.specs.Steps.{record_step};

@@ -1,4 +1,6 @@
 // The variables of a node's diagram, or those that it forces, as a word.
+#![tactic(auto)]
+
 pub mod forced;
 
 ghost use Rattle.std.specs.Prelude.{◌≡◌, ◌-◌, ◌≤◌, ◌<◌, length};

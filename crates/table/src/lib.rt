@@ -1,4 +1,6 @@
 // The node table over three columns and a lookup index: look up, place, drop, test.
+#![tactic(auto)]
+
 ghost use Rattle.std.specs.Prelude.{◌≡◌, ◌+◌, ◌*◌, ◌%◌, ◌<◌, ◌≤◌, max, [], ◌∷◌, ◌++◌, length, take};
 ghost use Rattle.table.specs.Nodes.{node_of, find, put};
 ghost use Rattle.table.specs.Indexed.{took_place};

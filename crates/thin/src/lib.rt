@@ -1,5 +1,7 @@
 // The operations without a memo, for thin diagrams, where each node has a constant for a child, as a clause's has. There one side of a step
 // at most has more to come: the steps are written on the way down and the nodes put on the way up, without a call for each.
+#![tactic(auto)]
+
 ghost use Rattle.std.specs.Prelude.{◌≡◌, true, false, List, ℕ, ◌≤◌, ◌<◌, length};
 ghost use Rattle.table.specs.Nodes.{diagram_at};
 ghost use Rattle.table.specs.Indexed.{table_of, nodes_of, Good, outcome_of};

@@ -1,4 +1,6 @@
 // The members that an operation may change, by their words.
+#![tactic(auto)]
+
 ghost use Rattle.std.specs.Prelude.{◌≡◌, map, ◌≤◌, length, get_or, take};
 ghost use Rattle.table.specs.Lists.{Inside};
 ghost use Rattle.touched.specs.Places.{AllBut, Untouched};

@@ -1,4 +1,6 @@
 // A propagation that does not conflict, done once more for the literals that each of its rounds fixes. (02, 8/14)
+#![tactic(auto)]
+
 ghost use Rattle.std.specs.Prelude.{◌≡◌, false, ◌+◌, ◌*◌, ◌^◌, ◌≤◌, ◌<◌, length, set};
 ghost use Rattle.meaning.specs.Rules.{unit_prop};
 ghost use Rattle.table.specs.Indexed.{table_of, nodes_of};

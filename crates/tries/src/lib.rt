@@ -1,4 +1,6 @@
 // The steps of a DRAT clause, added by its two tries or struck out, and of every command. (02, 4/14)
+#![tactic(auto)]
+
 mod add;
 mod command;
 mod strike;

@@ -1,5 +1,7 @@
 // The turns of a PR line that conflicted, by the member's node: a hash table of nodes and rounds. What a cell holds is right wherever it
 // stands, so nothing is said of where a node is looked for.
+#![tactic(auto)]
+
 ghost use Rattle.std.specs.Prelude.{◌≡◌, ◌*◌, ◌≤◌, ◌<◌, length};
 ghost use Rattle.turn_memo.specs.Turns.{Tells, Stores, Passes};
 

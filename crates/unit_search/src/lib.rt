@@ -1,4 +1,6 @@
 // The first listed node that has units, where some are known to have none.
+#![tactic(auto)]
+
 ghost use Rattle.walks.specs.Readable.{Readable, Roomy, nodes_in};
 ghost use Rattle.table.specs.Lists.{diagrams_of, Inside};
 ghost use Rattle.touched.specs.Places.{Rising};

@@ -1,4 +1,6 @@
 // U(f) of a node: from all literals those are struck out, edge by edge, that some way to node 1 leaves open or makes false.
+#![tactic(auto)]
+
 ghost use Rattle.std.specs.Prelude.{◌≡◌, ◌+◌, ◌≤◌, ◌<◌};
 ghost use Rattle.walks.specs.Readable.{Readable, Roomy, nodes_in};
 ghost use Rattle.units.specs.Units.{UnitsAt, past, struck_to, Struck, Marked, MarksBelow, StrikeReady, KnownAt, literal_where};

@@ -1,4 +1,6 @@
 // Walks over the nodes of a table that place no node.
+#![tactic(auto)]
+
 ghost use Rattle.std.specs.Prelude.{◌≡◌, ◌≤◌, ◌<◌, length};
 ghost use Rattle.walks.specs.Readable.{Readable, Roomy, Cleared, nodes_in, value_under};
 ghost use Rattle.walks.specs.Constant.{sides_under, one_at, OneMemo};

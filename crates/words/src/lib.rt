@@ -1,4 +1,6 @@
 // Sets of variables in a word, bit v - 1 for variable v, and sets of literals in two.
+#![tactic(auto)]
+
 ghost use Rattle.std.specs.Prelude.{◌≡◌, ◌≤◌};
 ghost use Rattle.meaning.specs.Words.{in_word};
 ghost use Rattle.words.specs.Sets.{ends_before, with_variable, below_word, without, shares, with_literal};
