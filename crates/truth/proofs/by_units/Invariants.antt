@@ -9,8 +9,8 @@ use Rattle.truth.proofs.Forms.{literals-step, literals-last, units-is}
 use Rattle.truth.proofs.by_units.Given as goal
 
 abbrev pub invariant-loop-v : goal.invariant-loop-v
-invariant-loop-v l = (l.v ≤ 6) × (by_literals l.v (λ l.v. word_unit l.u l.v true) (λ l.v. word_unit l.u l.v false) l.value ≡ by_literals 6
-    (λ l.v. word_unit l.u l.v true) (λ l.v. word_unit l.u l.v false) l.w)
+invariant-loop-v l = (l.v ≤ 6) × (by_literals l.v (λ v. word_unit l.u v true) (λ v. word_unit l.u v false) l.value ≡ by_literals 6
+    (λ v. word_unit l.u v true) (λ v. word_unit l.u v false) l.w)
 
 abbrev pub decreases-loop-v : goal.decreases-loop-v
 decreases-loop-v l = l.v
