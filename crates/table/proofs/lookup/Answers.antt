@@ -1,9 +1,10 @@
 -- `lookup` finds by the index what the walk from place 2 finds: the loop goes down one chain (Chain). Assumes nothing.
-use Rattle.std.proofs.Common.{sym, ap, ⊎_elim, rules, eq-eqb, ne_eqb}
+use Rattle.std.proofs.Common.{sym, ap, rules, eq-eqb, ne_eqb}
 use Rattle.table.specs.Nodes.{node_of, alike}
 use Rattle.table.specs.Indexed.{table_of, found_of}
 use Rattle.table.proofs.Chain.{Chain, chain-start, chain-less, chain_next, chain-hit, chain-end}
 use Rattle.table.proofs.lookup.Goals as goal
+use Rattle.table.proofs.lookup.Goals.{else-vars-i-via-then-vars-i+then-lows-i+else-highs-i, else-vars-i-via-then-vars-i+else-lows-i, else-vars-i-via-else-vars-i}
 
 pub loop-k-init : goal.loop-k-init
 loop-k-init c =
@@ -30,10 +31,14 @@ unfolding alike
 loop-k-preserved c =
     let next = chain_next _ c.requires _ _ c.loop-k-test.true
     c.loop-k.invariant in
-    ⊎_elim
-    (λ w. next (rw (eq-eqb _ _ w.0.taken, w.3.taken, w.6.left)))
-    (λ w. ⊎_elim (λ u. next (rw (eq-eqb _ _ u.0.taken, u.3.left))) (λ u. next (rw (ne_eqb _ _ u.left))) w)
-    c.else-vars-i.branch
+    elim c.else-vars-i.branch [
+      | else-vars-i-via-then-vars-i+then-lows-i+else-highs-i w ↦
+          next (rw (eq-eqb _ _ w.if-vars-i.true, w.if-lows-i.true-raw, w.if-highs-i.false-raw))
+      | else-vars-i-via-then-vars-i+else-lows-i w ↦
+          next (rw (eq-eqb _ _ w.if-vars-i.true, w.if-lows-i.false-raw))
+      | else-vars-i-via-else-vars-i w ↦
+          next (rw (ne_eqb _ _ w.if-vars-i.false))
+    ]
 
 pub returns : goal.returns
 returns c =
