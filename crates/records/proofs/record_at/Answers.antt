@@ -51,7 +51,7 @@ returns-in-69 c = sym (record-part _ _ 0x45 c.if-proof-at.false c.in-69.is)
 
 pub returns-in_default : goal.returns-in_default
 returns-in_default c =
-    let none = c.in_default.rest in
+    let none = c.in_default.in_default-own.rest in
     sym (record-part _ _ _ c.if-proof-at.false refl
     ∙ record-unknown _ _ none.0.0.0.0.0.0.0.0.0.1 none.0.0.0.0.0.0.0.0.1 none.0.0.0.0.0.0.0.1
     none.0.0.0.0.0.0.1
