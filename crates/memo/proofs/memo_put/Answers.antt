@@ -14,7 +14,7 @@ bounds-memo-c c =
     let m = c.make_room in
     omega (
       arith,
-      length-set m.last.0 1 c.wrapping_add_u64.result,
+      length-set m.new.memo 1 c.wrapping_add_u64.result,
       m.ensures.shaped.room,
       c.if-n-c.false,
     )
@@ -22,6 +22,6 @@ bounds-memo-c c =
 pub returns : goal.returns
 returns c =
     let m = c.make_room in
-    memo-stored c.args.memo.now m.last.0 m.ensures c.wrapping_add_u64.result
+    memo-stored c.args.memo.now m.new.memo m.ensures c.wrapping_add_u64.result
     c.cell_for-c.result c.args.f.0 c.args.g.0 c.args.r.0 c.if-n-c.false
     (omega (arith, c.struct_known-2-1.given)) (omega (arith, c.struct_known-3-1.given))
