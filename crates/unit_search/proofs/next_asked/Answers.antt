@@ -9,7 +9,7 @@ returns-then-asked-from c =
     let a = c.args in skips-none a.places.now a.asked a.k a.from c.if-asked-from.true
 
 pub overflow_cast-place : goal.overflow_cast-place
-overflow_cast-place c = omega (arith, c.shared_slice_known-1.given c.args.k)
+overflow_cast-place c = omega (arith, c.type_inv.places c.args.k)
 
 pub returns-then-place-asked : goal.returns-then-place-asked
 returns-then-place-asked c =
