@@ -33,11 +33,11 @@ pub returns-then-last-s : goal.returns-then-last-s
 returns-then-last-s c = read-cut _ _ _ _ c.last_group-last.ensures.value c.if-last-s.true c.requires.0
 
 pub returns-then-top-eq0 : goal.returns-then-top-eq0
-returns-then-top-eq0 c = read-closing _ _ _ _ c.last_group-last.ensures.value (inside c.before.before.before) _ refl _ refl
+returns-then-top-eq0 c = read-closing _ _ _ _ c.last_group-last.ensures.value (inside c.before.before.before.before) _ refl _ refl
     c.if-last-at.true c.if-top-eq0.true
 
 pub returns-then-top-eq1 : goal.returns-then-top-eq1
-returns-then-top-eq1 c = read_one _ _ _ _ c.last_group-last.ensures.value (inside c.before.before.before.before) _ refl _ refl
+returns-then-top-eq1 c = read_one _ _ _ _ c.last_group-last.ensures.value (inside c.before.before.before.before.before) _ refl _ refl
     c.if-last-at.true c.if-top-eq1.true
 
 pub overflow_cast-top : goal.overflow_cast-top
@@ -49,37 +49,37 @@ overflow_cast-top c = omega (
 
 pub returns-then-last-at : goal.returns-then-last-at
 returns-then-last-at c =
-    read_short _ _ _ _ c.last_group-last.ensures.value (inside c.before.before.before.before.before) _ refl _ refl
+    read_short _ _ _ _ c.last_group-last.ensures.value (inside c.before.before.before.before.before.before) _ refl _ refl
     c.if-last-at.true
     c.if-top-eq0.false c.if-top-eq1.false _ c.literal_of.ensures
 
 pub returns-then-top-eq0-2 : goal.returns-then-top-eq0-2
-returns-then-top-eq0-2 c = read-surplus _ _ _ _ c.last_group-last.ensures.value (inside c.before.before.before) _ refl _ refl
+returns-then-top-eq0-2 c = read-surplus _ _ _ _ c.last_group-last.ensures.value (inside c.before.before.before.before) _ refl _ refl
     c.if-last-at.false c.if-top-eq0-2.true
 
 pub overflow_sub-number : goal.overflow_sub-number
-overflow_sub-number c = first-open c
+overflow_sub-number c = first-open c.before
 
 pub overflow_cast-number : goal.overflow_cast-number
-overflow_cast-number c = omega (arith, low_byte c)
+overflow_cast-number c = omega (arith, low_byte c.before)
 
 pub overflow_cast-number-then-end-at-eq2 : goal.overflow_cast-number-then-end-at-eq2
-overflow_cast-number-then-end-at-eq2 c = omega (arith, top_byte c)
+overflow_cast-number-then-end-at-eq2 c = omega (arith, top_byte c.before)
 
 pub overflow_mul-number : goal.overflow_mul-number
-overflow_mul-number c = omega (arith, top_byte c)
+overflow_mul-number c = omega (arith, top_byte c.before)
 
 pub overflow_add-number : goal.overflow_add-number
-overflow_add-number c = omega (arith, top_byte c, low_byte c)
+overflow_add-number c = omega (arith, top_byte c.before, low_byte c.before)
 
 pub returns-then-end-at-eq2 : goal.returns-then-end-at-eq2
 returns-then-end-at-eq2 c =
-    read-two _ _ _ _ c.last_group-last.ensures.value (inside c.before.before.before.before.before.before) _ refl _ refl
+    read-two _ _ _ _ c.last_group-last.ensures.value (inside c.before.before.before.before.before.before.before) _ refl _ refl
     c.if-end-at-eq2.true
     c.if-top-eq0-2.false _ refl _ c.literal_of-then-end-at-eq2.ensures
 
 pub returns : goal.returns
 returns c =
-    read-many _ _ _ _ c.last_group-last.ensures.value (inside c.before.before.before.before) _ refl _ refl
+    read-many _ _ _ _ c.last_group-last.ensures.value (inside c.before.before.before.before.before) _ refl _ refl
     c.if-last-at.false c.if-end-at-eq2.false
     c.if-top-eq0-2.false c.requires.1

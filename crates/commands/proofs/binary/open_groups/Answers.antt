@@ -13,7 +13,7 @@ use Rattle.commands.proofs.binary.open_groups.Lts as lts
 use Rattle.commands.proofs.binary.open_groups.Tie as tie
 use Rattle.commands.proofs.binary.open_groups.Goals as goal
 
-literal : (c : lts.After-token2 tie.the-claims reads.Pre reads.Post goal.the-invariant-loop-at goal.the-decreases-loop-at)
+literal : (c : lts.Past-After-known_told2 tie.the-claims reads.Pre reads.Post goal.the-invariant-loop-at goal.the-decreases-loop-at)
     → IsLiteral c.args.s.now c.args.variables c.loop-at.at
     c.groups_at-groups.result c.in-Literal.variable
 literal c = literal-in _ _ _ _ _ _ c.groups_at-groups.ensures c.in-Literal.is
