@@ -13,21 +13,19 @@ use Rattle.convert.proofs.from_binary.clause_line.Goals as goal
 pub returns-then-kind-eq97 : goal.returns-then-kind-eq97
 returns-then-kind-eq97 c =
     let a = c.args in
-    let x = c.clause_literals in
-    subst (λ (y : Opened). LineWritten text_line (poured a.out.now a.many) x.last.1.1.1.0 y x.result)
+    subst (λ (y : Opened). LineWritten text_line (poured a.out.now a.many) c.clause_literals.new.out y c.clause_literals.result)
     (binary-adding _ _ c.if-kind-eq97.true)
-    (opened-none text_line text_literals false (poured a.out.now a.many) x.last.1.1.1.0
-    (binary_rest a.binary.now a.at (a.at + 1)) x.result (λ ls. refl) x.ensures)
+    (opened-none text_line text_literals false (poured a.out.now a.many) c.clause_literals.new.out
+    (binary_rest a.binary.now a.at (a.at + 1)) c.clause_literals.result (λ ls. refl) c.clause_literals.ensures)
 
 pub returns-then-kind-eq100 : goal.returns-then-kind-eq100
 returns-then-kind-eq100 c =
     let a = c.args in
-    let x = c.clause_literals-then-kind-eq100 in
-    subst (λ (y : Opened). LineWritten text_line (poured a.out.now a.many) x.last.1.1.1.0 y x.result)
+    subst (λ (y : Opened). LineWritten text_line (poured a.out.now a.many) c.clause_literals-then-kind-eq100.new.out y c.clause_literals-then-kind-eq100.result)
     (binary-striking _ _ c.if-kind-eq97.false c.if-kind-eq100.true)
-    (opened-two text_line text_literals true (poured a.out.now a.many) x.last.1.1.1.0
-    (binary_rest a.binary.now a.at (a.at + 1)) x.result 100 32 (λ ls. refl) _ _
-    c.put-letter.ensures c.put-opened.ensures x.ensures)
+    (opened-two text_line text_literals true (poured a.out.now a.many) c.clause_literals-then-kind-eq100.new.out
+    (binary_rest a.binary.now a.at (a.at + 1)) c.clause_literals-then-kind-eq100.result 100 32 (λ ls. refl) _ _
+    c.put-letter.ensures c.put-opened.ensures c.clause_literals-then-kind-eq100.ensures)
 
 pub returns : goal.returns
 returns c =

@@ -30,13 +30,13 @@ before s = poured s.args.out.now s.args.many
 abbrev whole : lts.Start tie.the-claims reads.Pre reads.Post goal.the-invariant-loop-at goal.the-decreases-loop-at → Next
 whole s = binary_rest s.args.binary.now s.args.first s.args.from
 
-literal : (c : lts.After-token2 tie.the-claims reads.Pre reads.Post goal.the-invariant-loop-at goal.the-decreases-loop-at)
+literal : (c : lts.Past-After-known_told2 tie.the-claims reads.Pre reads.Post goal.the-invariant-loop-at goal.the-decreases-loop-at)
     → IsLiteral c.args.binary.now 64 c.loop-at.at c.groups_at-groups.result
     c.in-Literal.variable
 literal c = literal-in _ _ _ _ _ _ c.groups_at-groups.ensures c.in-Literal.is
 
 -- the literal, and what is put of it
-abbrev made : lts.After-token2 tie.the-claims reads.Pre reads.Post goal.the-invariant-loop-at goal.the-decreases-loop-at → Literal
+abbrev made : lts.Past-After-known_told2 tie.the-claims reads.Pre reads.Post goal.the-invariant-loop-at goal.the-decreases-loop-at → Literal
 made c = literal_made c.in-Literal.variable c.in-Literal.positive
 
 pub loop-at-init : goal.loop-at-init
@@ -51,7 +51,7 @@ returns-in-Closing c =
 
 pub returns-in-Wrong : goal.returns-in-Wrong
 returns-in-Wrong c =
-    leads-refused text_literals (before c.before.before.before.before.before.before.before.before.before) (whole c.before.before.before.before.before.before.before.before.before) _ _ c.loop-at.invariant.2
+    leads-refused text_literals (before c.before.before.before.before.before.before.before.before) (whole c.before.before.before.before.before.before.before.before) _ _ c.loop-at.invariant.2
     _ _ c.loop-at.out
     (binary-wrong _ _ _ c.loop-at-test.true _ c.groups_at-groups.ensures _
     c.in-Wrong.is
@@ -64,19 +64,18 @@ pub loop-at-smaller : goal.loop-at-smaller
 loop-at-smaller c = omega (arith, (literal c.before.before.before.before.before).moves)
 
 pub loop-at-preserved : goal.loop-at-preserved
-loop-at-preserved c =
-    (
-      (literal c.before.before.before.before.before).within,
-      long_as _ _ _ c.put_literal-bytes.ensures ∙ c.loop-at.invariant.1,
-      leads-literal text_literals (before c.before.before.before.before.before.before.before.before.before.before.before.before) (whole c.before.before.before.before.before.before.before.before.before.before.before.before) _ _
-          c.loop-at.invariant.2 (made c.before.before.before.before.before) (bytes (made c.before.before.before.before.before))
-          (binary_rest c.args.binary.now c.args.first
-          c.groups_at-groups.result.end) (splits (made c.before.before.before.before.before))
-          (binary-literal _ _ _ c.loop-at-test.true _ c.groups_at-groups.ensures _ _
-          c.in-Literal.is) _
-          c.put_literal-bytes.ensures,
-    )
+loop-at-preserved c = (
+  (literal c.before.before.before.before.before).within,
+  long_as _ _ _ c.put_literal-bytes.ensures ∙ c.loop-at.invariant.1,
+  leads-literal text_literals (before c.before.before.before.before.before.before.before.before.before.before.before) (whole c.before.before.before.before.before.before.before.before.before.before.before) _ _
+      c.loop-at.invariant.2 (made c.before.before.before.before.before) (bytes (made c.before.before.before.before.before))
+      (binary_rest c.args.binary.now c.args.first
+      c.groups_at-groups.result.end) (splits (made c.before.before.before.before.before))
+      (binary-literal _ _ _ c.loop-at-test.true _ c.groups_at-groups.ensures _ _
+      c.in-Literal.is) _
+      c.put_literal-bytes.ensures,
+)
 
 pub returns : goal.returns
-returns c = leads-refused text_literals (before c.before.before.before.before) (whole c.before.before.before.before) _ _ c.loop-at.invariant.2 _ _
+returns c = leads-refused text_literals (before c.before.before.before.before.before) (whole c.before.before.before.before.before) _ _ c.loop-at.invariant.2 _ _
     c.loop-at.out (binary-open _ _ _ c.loop-at-test.false) refl

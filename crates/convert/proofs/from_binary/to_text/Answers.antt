@@ -17,16 +17,16 @@ use Rattle.convert.proofs.from_binary.to_text.Tie as tie
 use Rattle.convert.proofs.from_binary.to_text.Goals as goal
 
 -- behind a clause
-module _ (c : lts.After-next tie.the-claims reads.Pre reads.Post goal.the-invariant-loop-at goal.the-decreases-loop-at) where
+module _ (c : lts.Past-After-known_told tie.the-claims reads.Pre reads.Post goal.the-invariant-loop-at goal.the-decreases-loop-at) where
   abbrev proof-in-next : List ℕ
   proof-in-next = c.args.binary.now
 
   behind : Behind text_line Binary proof-in-next _ _ _ _ c.loop-at.invariant (λ k. k)
-      (binary_next proof-in-next c.loop-at.at).strikes c.clause_line.new.1.1.0
+      (binary_next proof-in-next c.loop-at.at).strikes c.clause_line.new.out
       c.in-Closed.next c.in-Closed.more
   behind =
       remains-closed text_line Binary proof-in-next _ _ _ _ c.loop-at.invariant (λ k. k)
-      (binary_next proof-in-next c.loop-at.at).strikes c.clause_line.new.1.1.0
+      (binary_next proof-in-next c.loop-at.at).strikes c.clause_line.new.out
       (binary_next proof-in-next c.loop-at.at).body (binary-lines-at _ _ c.loop-at-test.true) _ _
       (subst (ClauseWritten (text_line (binary_next proof-in-next c.loop-at.at).strikes) _ _
       (binary_next proof-in-next c.loop-at.at).body) c.in-Closed.is
@@ -50,12 +50,11 @@ unfolding to_text
 returns-in-Refused c =
     let s = c.args.binary.now in
     let at = c.loop-at.at in
-    let x = c.clause_line in
     c.refuse.ensures
     ∙ sym (remains-refused text_line Binary s _ _ _ at c.loop-at.invariant (λ k. k) (binary_next s at).strikes
-    x.last.1.1.0 (binary_next s at).body (binary-lines-at s at c.loop-at-test.true) _ _
-    (subst (ClauseWritten (text_line (binary_next s at).strikes) _ x.last.1.1.0 (binary_next s at).body)
-    c.in-Refused.is x.ensures))
+    c.clause_line.new.out (binary_next s at).body (binary-lines-at s at c.loop-at-test.true) _ _
+    (subst (ClauseWritten (text_line (binary_next s at).strikes) _ c.clause_line.new.out (binary_next s at).body)
+    c.in-Refused.is c.clause_line.ensures))
     ∙ ap (λ (n : ℕ). converted_by text_line n (lines_of Binary s))
     (cleared-long c.clear_bytes.new.bytes (length c.args.out.now)
     c.clear_bytes.ensures)

@@ -11,20 +11,18 @@ use Rattle.convert.proofs.from_text.clause_line.Goals as goal
 pub returns-then-is_letter : goal.returns-then-is_letter
 returns-then-is_letter c =
     let a = c.args in
-    let x = c.clause_literals in
-    subst (λ (y : Opened). LineWritten binary_line (poured a.out.now a.many) x.last.1.1.1.0 y x.result)
+    subst (λ (y : Opened). LineWritten binary_line (poured a.out.now a.many) c.clause_literals.new.out y c.clause_literals.result)
     (text-striking _ _ _ c.skip_between-from.ensures.value
     (sym c.is_letter.ensures ∙ c.if-is_letter.true))
-    (opened_one binary_line binary_literals true (poured a.out.now a.many) x.last.1.1.1.0
-    (text_rest a.text.now a.at c.skip_between-from.result) x.result 100 (λ ls. refl) _
-    c.put-opened.ensures x.ensures)
+    (opened_one binary_line binary_literals true (poured a.out.now a.many) c.clause_literals.new.out
+    (text_rest a.text.now a.at c.skip_between-from.result) c.clause_literals.result 100 (λ ls. refl) _
+    c.put-opened.ensures c.clause_literals.ensures)
 
 pub returns : goal.returns
 returns c =
     let a = c.args in
-    let x = c.clause_literals-2 in
-    subst (λ (y : Opened). LineWritten binary_line (poured a.out.now a.many) x.last.1.1.1.0 y x.result)
+    subst (λ (y : Opened). LineWritten binary_line (poured a.out.now a.many) c.clause_literals-2.new.out y c.clause_literals-2.result)
     (text-adding _ _ (sym c.is_letter.ensures ∙ c.if-is_letter.false))
-    (opened_one binary_line binary_literals false (poured a.out.now a.many) x.last.1.1.1.0
-    (text_rest a.text.now a.at a.at) x.result 97 (λ ls. refl) _
-    c.put-opened-2.ensures x.ensures)
+    (opened_one binary_line binary_literals false (poured a.out.now a.many) c.clause_literals-2.new.out
+    (text_rest a.text.now a.at a.at) c.clause_literals-2.result 97 (λ ls. refl) _
+    c.put-opened-2.ensures c.clause_literals-2.ensures)

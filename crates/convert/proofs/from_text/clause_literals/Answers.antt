@@ -28,12 +28,12 @@ before s = poured s.args.out.now s.args.many
 abbrev whole : lts.Start tie.the-claims reads.Pre reads.Post goal.the-invariant-loop-at goal.the-decreases-loop-at tie.handed_clauses → Next
 whole s = text_rest s.args.text.now s.args.first s.args.from
 
-says : (c : lts.After-variable tie.the-claims reads.Pre reads.Post goal.the-invariant-loop-at goal.the-decreases-loop-at tie.handed_clauses)
+says : (c : lts.Past-After-known_told2 tie.the-claims reads.Pre reads.Post goal.the-invariant-loop-at goal.the-decreases-loop-at tie.handed_clauses)
     → token_at c.args.text.now 64 c.loop-at.at
     ≡ Literal c.in-Literal.variable c.in-Literal.positive
 says c = sym c.token_at.ensures ∙ c.in-Literal.is
 
-literal : (c : lts.After-variable tie.the-claims reads.Pre reads.Post goal.the-invariant-loop-at goal.the-decreases-loop-at tie.handed_clauses) (end : ℕ)
+literal : (c : lts.Past-After-known_told2 tie.the-claims reads.Pre reads.Post goal.the-invariant-loop-at goal.the-decreases-loop-at tie.handed_clauses) (end : ℕ)
     → end ≡ c.loop-at.at + length (token_text (literal_made c.in-Literal.variable c.in-Literal.positive))
     → TextLiteral c.args.text.now c.args.first c.loop-at.at
     c.loop-at-test.true
@@ -66,7 +66,7 @@ returns-in-Closing c =
 
 pub returns-in-Wrong : goal.returns-in-Wrong
 returns-in-Wrong c =
-    leads-refused binary_literals (before c.before.before.before.before.before.before.before.before) (whole c.before.before.before.before.before.before.before.before) _ _
+    leads-refused binary_literals (before c.before.before.before.before.before.before.before) (whole c.before.before.before.before.before.before.before) _ _
     c.loop-at.invariant.2 _ _ c.loop-at.out
     (text-wrong _ _ _ c.loop-at-test.true _
     (sym c.token_at.ensures ∙ c.in-Wrong.is)) refl
@@ -75,35 +75,34 @@ pub put_groups-bytes-requires : goal.put_groups-bytes-requires
 put_groups-bytes-requires c = (literal-bounds _ _ _ _ (says c.before.before)).most
 
 pub overflow_add-end : goal.overflow_add-end
-overflow_add-end c = omega (arith, (literal c.before.before.before.before.before.before _ (end_is c)).within)
+overflow_add-end c = omega (arith, (literal c.before.before.before.before.before.before _ (end_is c.before)).within)
 
 pub skip_between-at-requires : goal.skip_between-at-requires
-skip_between-at-requires c = (literal c.before.before.before.before.before.before _ (end_is c)).within
+skip_between-at-requires c = (literal c.before.before.before.before.before.before _ (end_is c.before)).within
 
 pub loop-at-smaller : goal.loop-at-smaller
 loop-at-smaller c =
     omega (
       arith,
-      (literal c.before.before.before.before.before.before.before _ (end_is c.before)).moves,
+      (literal c.before.before.before.before.before.before.before _ (end_is c.before.before)).moves,
       c.skip_between-at.ensures.lower_bound.0,
       c.skip_between-at.ensures.lower_bound.1,
     )
 
 pub loop-at-preserved : goal.loop-at-preserved
-loop-at-preserved c =
-    (
-      c.skip_between-at.ensures.lower_bound.1,
-      long_as _ _ _ c.put_groups-bytes.ensures ∙ c.loop-at.invariant.1,
-      leads-literal binary_literals (before c.before.before.before.before.before.before.before.before.before.before.before.before.before.before) (whole c.before.before.before.before.before.before.before.before.before.before.before.before.before.before) _ _
-          c.loop-at.invariant.2 (made c.before) (bytes (made c.before))
-          (text_rest c.args.text.now c.args.first c.skip_between-at.result)
-          (λ ls. refl)
-          ((literal c.before.before.before.before.before.before.before _ (end_is c.before)).goes
-          ∙ ap (λ (p : ℕ). literal_then (made c.before)
-          (text_rest c.args.text.now c.args.first p))
-          (sym c.skip_between-at.ensures.value)) _ c.put_groups-bytes.ensures,
-    )
+loop-at-preserved c = (
+  c.skip_between-at.ensures.lower_bound.1,
+  long_as _ _ _ c.put_groups-bytes.ensures ∙ c.loop-at.invariant.1,
+  leads-literal binary_literals (before c.before.before.before.before.before.before.before.before.before.before.before.before.before) (whole c.before.before.before.before.before.before.before.before.before.before.before.before.before) _ _
+      c.loop-at.invariant.2 (made c.before.before) (bytes (made c.before.before))
+      (text_rest c.args.text.now c.args.first c.skip_between-at.result)
+      (λ ls. refl)
+      ((literal c.before.before.before.before.before.before.before _ (end_is c.before.before)).goes
+      ∙ ap (λ (p : ℕ). literal_then (made c.before.before)
+      (text_rest c.args.text.now c.args.first p))
+      (sym c.skip_between-at.ensures.value)) _ c.put_groups-bytes.ensures,
+)
 
 pub returns : goal.returns
-returns c = leads-refused binary_literals (before c.before.before.before.before) (whole c.before.before.before.before) _ _ c.loop-at.invariant.2 _
+returns c = leads-refused binary_literals (before c.before.before.before.before.before) (whole c.before.before.before.before.before) _ _ c.loop-at.invariant.2 _
     _ c.loop-at.out (text-open _ _ _ c.loop-at-test.false) refl

@@ -18,16 +18,16 @@ use Rattle.convert.proofs.from_text.to_binary.Tie as tie
 use Rattle.convert.proofs.from_text.to_binary.Goals as goal
 
 -- behind a clause
-module _ (c : lts.After-next tie.the-claims reads.Pre reads.Post goal.the-invariant-loop-at goal.the-decreases-loop-at tie.handed_clauses) where
+module _ (c : lts.Past-After-known_told tie.the-claims reads.Pre reads.Post goal.the-invariant-loop-at goal.the-decreases-loop-at tie.handed_clauses) where
   abbrev proof-in-next : List ℕ
   proof-in-next = c.args.text.now
 
   behind : Behind binary_line Text proof-in-next _ _ _ _ c.loop-at.invariant (between proof-in-next)
-      (text_next proof-in-next c.loop-at.at).strikes c.clause_line.new.1.1.0
+      (text_next proof-in-next c.loop-at.at).strikes c.clause_line.new.out
       c.in-Closed.next c.in-Closed.more
   behind =
       remains-closed binary_line Text proof-in-next _ _ _ _ c.loop-at.invariant (between proof-in-next)
-      (text_next proof-in-next c.loop-at.at).strikes c.clause_line.new.1.1.0
+      (text_next proof-in-next c.loop-at.at).strikes c.clause_line.new.out
       (text_next proof-in-next c.loop-at.at).body (text-lines-at _ _ c.loop-at-test.true) _ _
       (subst (ClauseWritten (binary_line (text_next proof-in-next c.loop-at.at).strikes) _ _
       (text_next proof-in-next c.loop-at.at).body) c.in-Closed.is
@@ -54,12 +54,11 @@ unfolding to_binary
 returns-in-Refused c =
     let s = c.args.text.now in
     let at = c.loop-at.at in
-    let x = c.clause_line in
     c.refuse.ensures
     ∙ sym (remains-refused binary_line Text s _ _ _ at c.loop-at.invariant (between s) (text_next s at).strikes
-    x.last.1.1.0 (text_next s at).body (text-lines-at s at c.loop-at-test.true) _ _
-    (subst (ClauseWritten (binary_line (text_next s at).strikes) _ x.last.1.1.0 (text_next s at).body)
-    c.in-Refused.is x.ensures))
+    c.clause_line.new.out (text_next s at).body (text-lines-at s at c.loop-at-test.true) _ _
+    (subst (ClauseWritten (binary_line (text_next s at).strikes) _ c.clause_line.new.out (text_next s at).body)
+    c.in-Refused.is c.clause_line.ensures))
     ∙ ap (λ (n : ℕ). converted_by binary_line n (lines_of Text s))
     (cleared-long c.clear_bytes.new.bytes (length c.args.out.now)
     c.clear_bytes.ensures)
