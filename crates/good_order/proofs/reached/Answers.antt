@@ -8,6 +8,7 @@ use Rattle.good_order.proofs.Right.{link-less}
 use Rattle.good_order.proofs.Testing.{Walking, walk-past, walk-head, walk_start, walk-next, walk-hit, walk-found, walk_end}
 use borrow.Author.Rules.{rules}
 use Rattle.good_order.proofs.reached.Goals as goal
+use Rattle.good_order.proofs.reached.Goals.{else-vars-j-via-then-vars-j+then-lows-j+else-highs-j, else-vars-j-via-then-vars-j+else-lows-j, else-vars-j-via-else-vars-j}
 
 pub overflow_cast-j : goal.overflow_cast-j
 overflow_cast-j c = omega (arith, c.shared_slice_known-9-1.given c.bucket_of-b.result)
@@ -47,8 +48,11 @@ pub loop-j-preserved : goal.loop-j-preserved
 unfolding alike
 loop-j-preserved c = let next = walk-next _ c.requires.lent_sizes.0 c.requires.nodes_fit _ _
     c.requires.lent_sizes.1 c.loop-j-test.true c.loop-j.invariant in
-    ⊎_elim (λ w. next (rw (eq-eqb _ _ w.0.taken, w.2.taken, w.4.left)))
-    (λ w. ⊎_elim (λ u. next (rw (eq-eqb _ _ u.0.taken, u.2.left))) (λ u. next (rw (ne_eqb _ _ u.left))) w) c.else-vars-j.branch
+    elim c.else-vars-j.branch [
+      | else-vars-j-via-then-vars-j+then-lows-j+else-highs-j w ↦ next (rw (eq-eqb _ _ w.if-vars-j.true, w.if-lows-j.true-raw, w.if-highs-j.false-raw))
+      | else-vars-j-via-then-vars-j+else-lows-j w ↦ next (rw (eq-eqb _ _ w.if-vars-j.true, w.if-lows-j.false-raw))
+      | else-vars-j-via-else-vars-j w ↦ next (rw (ne_eqb _ _ w.if-vars-j.false))
+    ]
 
 pub returns-then-j-k-2 : goal.returns-then-j-k-2
 returns-then-j-k-2 c = walk_end _ c.requires.lent_sizes.0 c.requires.nodes_fit _ _
