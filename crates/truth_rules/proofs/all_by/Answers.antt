@@ -1,0 +1,18 @@
+-- `all_by` fills a list with the cofactors by a word, place after place. Assumes nothing.
+use native.Mathlib.Omega.{arith}
+use borrow.Author.Rules.{rules}
+use Prim.Native.Nat.{◌-◌}
+use lib.ListN.{length}
+use Rattle.truth.specs.Tables.{near}
+use Rattle.truth_rules.proofs.Walks.{Filled, filled_none, filled-one, filled-all}
+use Rattle.truth_rules.proofs.all_by.Goals as goal
+
+pub loop-i-init : goal.loop-i-init
+loop-i-init c = filled_none _ _ _
+
+pub loop-i-preserved : goal.loop-i-preserved
+loop-i-preserved c = filled-one _ _ _ _ _ _ c.loop-i.invariant c.loop-i-test.true
+    c.requires c.cofactor.ensures
+
+pub returns : goal.returns
+returns c = filled-all _ _ _ _ _ c.loop-i.invariant (omega (arith, c.loop-i-test.false)) c.requires

@@ -1,0 +1,25 @@
+-- `turn`: one member's turn of a PR line. The idea: h is 1, or the propagation is that of the words' diagrams. Assumes nothing.
+use Rattle.truth_rules.specs.Lists.{diagrams_of}
+use native.Mathlib.Omega.{arith}
+use Rattle.truth_rules.proofs.LineWords.{turn_one, turn-other}
+use borrow.Author.Rules.{rules}
+use Rattle.truth_rules.proofs.turn.Goals as goal
+
+pub returns-then-h : goal.returns-then-h
+returns-then-h c = record {
+  says = turn_one c.args.f c.args.positive c.args.negative
+      c.by_literals-h.result c.by_literals-h.ensures (omega (arith, c.by_literals-h.type_inv))
+      (diagrams_of c.args.first.now) c.if-h.true;
+  rounds_bound = omega arith;
+}
+
+pub returns : goal.returns
+returns c = record {
+  says = turn-other c.args.f c.args.positive c.args.negative
+      c.by_literals-h.result c.by_literals-h.ensures
+      (omega (arith, c.by_literals-h.type_inv)) c.args.first.now
+      c.all_by.new.to c.negate-not.result c.if-h.false
+      c.negate-not.ensures c.all_by.ensures c.unit_prop.result
+      c.unit_prop.ensures.says;
+  rounds_bound = c.unit_prop.ensures.rounds_bound;
+}
