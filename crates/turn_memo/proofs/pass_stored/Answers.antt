@@ -5,13 +5,7 @@ use lib.ListN.{length}
 use borrow.Author.Rules.{rules}
 use Rattle.turn_memo.specs.Turns.{Passes, here}
 use Rattle.turn_memo.proofs.Known.{passes-told}
-use Rattle.turn_memo.proofs.pass_stored.Reads as reads
-use Rattle.turn_memo.proofs.pass_stored.Lts as lts
-use Rattle.turn_memo.proofs.pass_stored.Tie as tie
 use Rattle.turn_memo.proofs.pass_stored.Goals as goal
-
-told-few : (c : lts.Else1 tie.the-claims reads.Pre reads.Post goal.the-invariant-loop-i goal.the-decreases-loop-i) → c.look_up-m.result - 1 < 127
-told-few c = (c.look_up-m.ensures (c.look_up-m.result - 1) (omega (arith, c.if-m-eq0.false))).few
 
 pub loop-i-init : goal.loop-i-init
 loop-i-init c = (here, search rules)
@@ -21,16 +15,16 @@ returns-then-m-eq0 c = c.loop-i.invariant.0
 
 pub overflow_add-sum : goal.overflow_add-sum
 overflow_add-sum c =
-    let few = told-few c in
+    let few = (c.look_up-m.ensures (c.look_up-m.result - 1) (omega (arith, c.if-m-eq0.false))).few in
     omega (arith, few, c.loop-i.invariant.1, c.loop-i-test.true, c.requires.1)
 
 pub loop-i-preserved : goal.loop-i-preserved
 loop-i-preserved c =
-    let few = told-few c in
+    let few = (c.look_up-m.ensures (c.look_up-m.result - 1) (omega (arith, c.if-m-eq0.false))).few in
     let w = c.loop-i in (
       passes-told c.args.members.now c.args.turns.now c.args.from c.args.rounds w.i w.sum c.look_up-m.result
-          w.inv.0 c.loop-i-test.true c.if-m-eq0.false c.look_up-m.ensures,
-      omega (arith, few, w.inv.1),
+          w.invariant.0 c.loop-i-test.true c.if-m-eq0.false c.look_up-m.ensures,
+      omega (arith, few, w.invariant.1),
     )
 
 pub returns : goal.returns
