@@ -1,12 +1,15 @@
 // Checks a proof in records: two file names, formula then proof; prints one line: number, place, accepted lines, rounds, peak.
-use commands::{Form, Mode};
+#![tactic(auto)]
 
-fn main() {
+use commands::{Form, Mode};
+use std::io;
+
+fn main(rt: HostRuntime) -> io::Result<()> {
     let mut formula = [0u8; 65537];
     let mut proof = [0u8; 65537];
     let mode = Mode {
         form: Form::Records,
         consequence: false,
     };
-    program::run(mode, &mut formula, &mut proof);
+    program::run(&rt, mode, &mut formula, &mut proof)
 }
