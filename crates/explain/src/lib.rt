@@ -1,6 +1,5 @@
 // Why a check refuses: its number, the offending piece and the true cause. (02, 8/14)
 pub mod call;
-mod linked;
 
 // `shown` gives the part that a call names as a part of the caller's own bytes.
 pub use pieces::{Part, shown};

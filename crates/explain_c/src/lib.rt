@@ -1,4 +1,6 @@
-// The call that explains a refusal, for Rust and C to link. (02, 8/14)
+// The call that explains a refusal, `explain::call::why`, for Rust and C to link. (02, 8/14)
+#![tactic(auto)]
+
 ghost use Rattle.std.specs.Prelude.{◌≡◌};
 ghost use Rattle.table.specs.Columns.{columns_made};
 ghost use Rattle.commands.specs.Commands.{in_form};
@@ -6,7 +8,7 @@ ghost use Rattle.checker.specs.Forms.{form_of};
 ghost use Rattle.causes.specs.Answers.{why};
 ghost use Rattle.explain.specs.Why.{why_outcome};
 
-use crate::Why;
+use explain::Why;
 
 // The check of a formula and a proof in the form and the profile that the caller names, and why it refuses: form 0 is records, 1 a DRAT
 // text, any other binary DRAT. `fixed` is for the literals of 19: 128 words or more, two for each round, those made true and those made
@@ -35,7 +37,7 @@ pub extern "C" fn cablesalak_why<'a>(
         fixed.old formula.now proof.now }
 {
     let mode = checker::mode_of(form, consequence);
-    crate::call::why(
+    explain::call::why(
         vars, lows, highs, heads, links, count, members, scratch, struck, fixed, mode, formula,
         proof,
     )

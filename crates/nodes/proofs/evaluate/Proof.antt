@@ -1,4 +1,4 @@
--- `nodes::cablesalak_evaluate_nodes` meets its contract: a walk of its MIR, by hand, as that of `nodes::check`. The nodes are loaded into
+-- `nodes::evaluate` meets its contract: a walk of its MIR, by hand, as that of `nodes::check`. The nodes are loaded into
 -- three local arrays, and the evaluation over the columns is called. The three calls go by their contracts (`Clipping.antt` and
 -- `Loading.antt` of crate `columns`, `Evaluating.antt`), and `Calls.antt` says that the arrays' equation is the slice's. Assumes nothing.
 use mathlib.Core.Path.{◌≡◌, refl, sym, subst}
@@ -71,10 +71,10 @@ use Rattle.columns.proofs.load.Met as load-thm
 use Rattle.nodes.proofs.within.evaluate_within.Symbol as within-def
 use Rattle.nodes.proofs.within.evaluate_within.Symbol.{name as #within}
 use Rattle.nodes.proofs.within.evaluate_within.Met as within-thm
-use Rattle.nodes.specs.contracts.cablesalak_evaluate_nodes.Key.{name as #nodes·evaluate}
-use Rattle.nodes.specs.contracts.cablesalak_evaluate_nodes as evaluate-fn
-use Rattle.nodes.proofs.cablesalak_evaluate_nodes.Statement as stated
-use Rattle.nodes.proofs.cablesalak_evaluate_nodes.Code as code
+use Rattle.nodes.specs.contracts.evaluate.Key.{name as #nodes·evaluate}
+use Rattle.nodes.specs.contracts.evaluate as evaluate-fn
+use Rattle.nodes.proofs.evaluate.Statement as stated
+use Rattle.nodes.proofs.evaluate.Code as code
 
 abbrev Arg : Type 0
 Arg = Bor (List Node) × (Bor (List ℕ) × (Bor (List ℕ) × (ℕ × (NodeNo × (ℕ × Unit {0})))))

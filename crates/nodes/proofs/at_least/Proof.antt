@@ -1,4 +1,4 @@
--- `nodes::cablesalak_at_least_nodes` meets its contract: a walk of its MIR, by hand, as that of `nodes::operation`. The nodes are loaded
+-- `nodes::at_least` meets its contract: a walk of its MIR, by hand, as that of `nodes::operation`. The nodes are loaded
 -- into three local arrays, the call over the columns is made, and the columns are written back. The four calls go by their contracts
 -- (`Clipping.antt`, `Loading.antt` and `Saving.antt` of crate `columns`, `Counting.antt`), and `Calls.antt` says that the arrays' equation
 -- is the slice's. Assumes nothing.
@@ -77,10 +77,10 @@ use Rattle.columns.proofs.save.Met as save-thm
 use Rattle.nodes.proofs.within.at_least_within.Symbol as within-def
 use Rattle.nodes.proofs.within.at_least_within.Symbol.{name as #within}
 use Rattle.nodes.proofs.within.at_least_within.Met as within-thm
-use Rattle.nodes.specs.contracts.cablesalak_at_least_nodes.Key.{name as #nodes·at-least}
-use Rattle.nodes.specs.contracts.cablesalak_at_least_nodes as at-least-fn
-use Rattle.nodes.proofs.cablesalak_at_least_nodes.Statement as stated
-use Rattle.nodes.proofs.cablesalak_at_least_nodes.Code as code
+use Rattle.nodes.specs.contracts.at_least.Key.{name as #nodes·at-least}
+use Rattle.nodes.specs.contracts.at_least as at-least-fn
+use Rattle.nodes.proofs.at_least.Statement as stated
+use Rattle.nodes.proofs.at_least.Code as code
 
 abbrev Arg : Type 0
 Arg = MutBor (List Node) × (MutBor (List ℕ) × (MutBor (List ℕ) × (ℕ × (ℕ × (ℕ × Unit {0})))))
