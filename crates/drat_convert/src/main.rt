@@ -93,15 +93,15 @@ fn put_line(told: Converted, line: &mut [u8]) -> usize
 fn deliver<'a>(
     rt: &impl Print,
     line: &'a [u8],
-    res: &'a [u8],
+    bytes: &'a [u8],
     binary: bool,
     read: bool,
     file: &'a [u8],
 ) -> io::Result<()>
-    requires { line.now ++ res.now ≡ written_for binary read file.now }
+    requires { line.now ++ bytes.now ≡ written_for binary read file.now }
 {
     rt.write_all(line)?;
-    rt.write_all(res)
+    rt.write_all(bytes)
 }
 
 // The line and the result for what was read: the second argument names the file.
