@@ -1,4 +1,6 @@
 // Two rule books on one table, for Rust and C to link: the opening and a book's call. (02, 10/14)
+#![tactic(auto)]
+
 ghost use Rattle.std.specs.Prelude.{◌≡◌};
 ghost use Rattle.table.specs.Columns.{columns_made};
 ghost use Rattle.book_kept.specs.Calls.{lists_made, kept_call, booked_outcome, kept_opening, opening_outcome};

@@ -1,4 +1,6 @@
 // The public calls for Rust and C to link: each has the contract of the call of `checker` or `report` and nothing of its own.
+#![tactic(auto)]
+
 ghost use Rattle.std.specs.Prelude.{◌≡◌, length, take, drop};
 ghost use Rattle.checker.specs.Forms.{form_of};
 ghost use Rattle.commands.specs.Commands.{in_form, in_records, in_text};

@@ -1,5 +1,7 @@
 // The check over the node table as one lent slice of node structs, with its index. Each call tests for itself all that it needs, and none
 // has a `requires`.
+#![tactic(auto)]
+
 mod within;
 
 ghost use Rattle.std.specs.Prelude.{◌≡◌};

@@ -1,4 +1,6 @@
 // The check by truth table for Rust and C to link, alone: it has the call's contract, and what number 0 means.
+#![tactic(auto)]
+
 ghost use Rattle.std.specs.Prelude.{◌≡◌};
 ghost use Rattle.small.specs.Checked.{small_outcome};
 ghost use Rattle.small_verdict.specs.Small.{small_call};
