@@ -62,7 +62,7 @@ else
     # fails: the file may have found no room. `rt run` also runs what it built, with no argument.
     build() {
         local said last=() kept=1 ended=1 crate='' log=$root/target/$1.out
-        [ -n "$quiet" ] || tell "$title: proving and building the program, $(crates "$1") crates, from nothing an hour or more"
+        [ -n "$quiet" ] || tell "$title: proving and building the program, $(crates "$1") crates; from nothing this takes long"
         : >"$log" || kept=
         while IFS= read -r said; do
             if [[ $said =~ ^ended\ with\ ([0-9]+)$ ]]; then
