@@ -57,10 +57,15 @@ need "$crate"
 
 # run [FORMULA [PROOF]]: a name that is not given is empty, which is no file, so that the mode keeps its place.
 run() {
+    local file names=()
+    for file in "$@"; do
+        named "$file"
+        names+=("$named")
+    done
     if [ "$crate" = refute_in ]; then
-        "$program" "${1-}" "${2-}" "$form$consequence"
+        "$program" "${names[0]-}" "${names[1]-}" "$form$consequence"
     else
-        "$program" "$@"
+        "$program" "${names[@]}"
     fi
 }
 

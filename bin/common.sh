@@ -48,7 +48,7 @@ else
     # How many crates of the repository a program stands on, itself among them.
     crates() {
         awk -v program="$1" '
-            { sub(/#.*/, "") } match($0, /:/) { name = substr($0, 1, RSTART - 1); gsub(/[ \t]/, "", name); under[name] = substr($0, RSTART + 1) }
+            { sub(/#.*/, "") } match($0, /:/) { split($0, words, /[ \t:]+/); under[words[1]] = substr($0, RSTART + 1) }
             function reach(name, k, i, names) {
                 if (!(name in under) || seen[name]++) return
                 count++
@@ -58,12 +58,11 @@ else
             END { reach(program); print count + 0 }' "$root/crates.txt"
     }
 
-    # Proves and builds a program; tells which crate of how many is being proved. What rt says is kept in a file, and its last lines are told
-    # where it fails: the file may have found no room.
+    # Proves and builds a program; tells each crate that is proved on the way. What rt says is kept in a file, and its last lines are told where it
+    # fails: the file may have found no room. `rt run` also runs what it built, with no argument.
     build() {
-        local total at=1 said last=() kept=1 ended=1 log=$root/target/$1.out
-        total=$(crates "$1")
-        [ -n "$quiet" ] || tell "$title: proving and building the program, from nothing about 15 minutes on 2 cores: crate 1 of $total"
+        local said last=() kept=1 ended=1 crate='' log=$root/target/$1.out
+        [ -n "$quiet" ] || tell "$title: proving and building the program, $(crates "$1") crates; from nothing this takes long"
         : >"$log" || kept=
         while IFS= read -r said; do
             if [[ $said =~ ^ended\ with\ ([0-9]+)$ ]]; then
@@ -73,12 +72,13 @@ else
             printf '%s\n' "$said" 2>/dev/null >>"$log" || kept=
             last+=("$said")
             [ "${#last[@]}" -le 20 ] || last=("${last[@]:1}")
-            [[ $said =~ ^rt:\ ([a-z_0-9]+)\ proved(.*) ]] && [ "$at" -lt "$total" ] || continue
-            at=$((at + 1))
-            # What stands since an earlier proof is counted and not told.
-            [ -n "$quiet" ] || [[ ${BASH_REMATCH[2]} == *unchanged* ]] || tell "$title: ${BASH_REMATCH[1]} is proved; crate $at of $total"
-        done < <(cd "$root" && { rt check "$1" 2>&1 && echo "ended with 0" || echo "ended with $?"; })
-        [ "$ended" = 0 ] && [ -f "$programs/$1" ] && return
+            if [[ $said =~ ^crate\ ([a-z_0-9]+):\  ]]; then
+                crate=${BASH_REMATCH[1]}
+            elif [[ $said == logic=proved* ]] && [ -z "$quiet" ] && [ "$crate" != "$1" ]; then
+                tell "$title: $crate is proved"
+            fi
+        done < <(cd "$root/crates/$1" && { rt run </dev/null 2>&1 && echo "ended with 0" || echo "ended with $?"; })
+        [ "$ended" = 0 ] && keep "$1" "$1" "$program" && return
         printf '%s\n' "${last[@]}" >&2 || true
         if [ -n "$kept" ]; then
             tell "$title: not built; target/$1.out says why"
@@ -94,11 +94,11 @@ else
         ensure "$1" "$program" build "$1"
     }
 
-    # staticlib CRATE: the crate proved, and its archive for C and Rust. What rt says is told where it fails.
+    # staticlib NAME: the archive for C and Rust, proved. What rt says is told where it fails.
     staticlib() {
         local log=$root/target/$1.out
         [ -n "$quiet" ] || tell "$title: proving and building the archive of $1"
-        (cd "$root" && rt staticlib "$1") >"$log" 2>&1 || { tail -n 20 "$log" >&2; tell "$title: not built; target/$1.out says why"; exit; }
+        archive "$1" >"$log" 2>&1 || { tail -n 20 "$log" >&2; tell "$title: not built; target/$1.out says why"; exit; }
     }
 
     # need_small: the program of the check by truth table, `small`: examples/c/terminal.c over its proved archive.
@@ -127,6 +127,17 @@ else
         echo "toolchain $(rt version 2>/dev/null || echo none)"
     }
 fi
+
+# named NAME: sets `named` to a name that a program can open. A program reads names in UTF-8 alone: a file of any other name is opened here, and named
+# by its descriptor.
+named() {
+    local descriptor
+    named=$1
+    if [[ $1 == *[$'\x80'-$'\xff']* ]] && ! iconv -f UTF-8 -t UTF-8 <<<"$1" >/dev/null 2>&1 && [ -r "$1" ]; then
+        exec {descriptor}<"$1"
+        named=/dev/fd/$descriptor
+    fi
+}
 
 # What runs here, so that two results can be known to be of one checker. It ends with 2, since 0 is kept for what is shown.
 version() {

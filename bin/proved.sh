@@ -1,10 +1,12 @@
-# Whether a file under target/ is what the prover built from this checkout's files. bin/common.sh, bin/install and rust/run read it; they set
-# `root`. Each product has a note, target/built/NAME: the digest of the files, the toolchain's identity, the product's digest. Dates play no
-# part, since a copy may bring older ones.
+# Whether a file under target/ is what the prover built from this checkout's files. bin/common.sh, bin/install, bin/test and rust/run read it; they
+# set `root`. `rt` leaves what it builds in the crate's own folder out/, which its next run may empty: a program is kept as target/bin/NAME, an
+# archive as target/staticlib/libNAME.a. Each product has a note, target/built/NAME: the digest of the files, the toolchain's identity, the
+# product's digest. Dates play no part, since a copy may bring older ones.
 
 # The digest of all files that a proof can depend on, with their names.
 digest_files() {
-    (cd "$root" && find -L crates crates.txt -type f -print0 | sort -z | xargs -0 -r sha256sum | sha256sum | cut -d ' ' -f 1)
+    (cd "$root" && find -L crates crates.txt -path 'crates/*/out' -prune -o -type f -print0 | sort -z | xargs -0 -r sha256sum | sha256sum |
+        cut -d ' ' -f 1)
 }
 
 digest() {
@@ -42,6 +44,16 @@ lock() {
     flock 9
 }
 
+# noting FILES NAME PRODUCT: writes the note of a product that was just made of these files.
+noting() {
+    if [ "$(digest_files)" != "$1" ]; then
+        echo "a file under crates/ was changed while they were proved: start again" >&2
+        return 1
+    fi
+    note "$@" >"$root/target/built/$2.new"
+    mv "$root/target/built/$2.new" "$root/target/built/$2"
+}
+
 # ensure NAME PRODUCT COMMAND..: where the product is not the one of these files, it is made by the command, which calls `rt`.
 ensure() {
     local name=$1 product=$2 files
@@ -50,23 +62,36 @@ ensure() {
     if is_proved "$files" "$name" "$product"; then return; fi
     lock
     if ! is_proved "$files" "$name" "$product"; then
-        # `rt check` passes over a program that it has proved already: one that is missing, or is another than the noted one of the same files,
-        # is made again.
-        if [ ! -f "$product" ] || { [ "$(noted files "$name")" = "$files" ] && [ "$(noted product "$name")" != "$(digest "$product")" ]; }; then
-            rm -f "$root/target/stamp/$name"
-        fi
         "$@"
-        if [ "$(digest_files)" != "$files" ]; then
-            echo "a file under crates/ was changed while they were proved: start again" >&2
-            return 1
-        fi
-        note "$files" "$name" "$product" >"$root/target/built/$name.new"
-        mv "$root/target/built/$name.new" "$root/target/built/$name"
+        noting "$files" "$name" "$product"
     fi
     exec 9<&-
 }
 
-# The crates with functions that C and Rust programs link.
+# keep CRATE FILE PRODUCT: puts what `rt` left as crates/CRATE/out/FILE in the product's place.
+keep() {
+    mkdir -p "$(dirname "$3")"
+    cp "$root/crates/$1/out/$2" "$3.$$"
+    mv -f "$3.$$" "$3"
+}
+
+# take FILES CRATE: keeps the program that an `rt ci` over these files has just proved and built.
+take() {
+    lock
+    keep "$2" "$2" "$root/target/bin/$2"
+    noting "$1" "$2" "$root/target/bin/$2"
+    exec 9<&-
+}
+
+# The archives with functions that C and Rust programs link, each by the name that it is linked by.
 archives() {
-    (cd "$root/crates" && grep -rl --include='*.rt' '^#\[no_mangle\]' -- */src | cut -d / -f 1 | sort -u)
+    sed -n 's/^\([a-z0-9_]*\) staticlib *:.*/\1/p' "$root/crates.txt" | sed 's/_c$//' | sort
+}
+
+# archive NAME: proves the static library and puts its archive where C and Rust programs look for it. Where a library of that name is for Rattle
+# programs, the archive is that of crate NAME_c.
+archive() {
+    local crate=$1
+    ! grep -q "^$1_c staticlib" "$root/crates.txt" || crate=$1_c
+    (cd "$root/crates/$crate" && rt lib) && keep "$crate" "lib$crate.a" "$root/target/staticlib/lib$1.a"
 }

@@ -1,6 +1,6 @@
 /* The proved checker of diagram refutations, for C and C++ on x86-64 with the System V calling convention (Linux).
  *
- * Link target/staticlib/libexport.a, which `rt staticlib export` writes once every function is proved. docs/LINKING.md has
+ * Link target/staticlib/libexport.a, which `rust/run archives export` writes once every function is proved. docs/LINKING.md has
  * the commands, docs/THEOREMS.md what is proved, crates/export/src/lib.rt the contracts that the words below render.
  *
  * Contents: results; single calls; the check (cablesalak_check_in, and two calls with fewer parameters); conversions of DRAT proofs;
@@ -305,8 +305,8 @@ cablesalak_told cablesalak_report_in(
     uint8_t form, bool consequence,
     uint8_t line[CABLESALAK_LINE]);
 
-/* ---- The table as one list of records. The first two calls are in target/staticlib/libnodes.a (`rt staticlib nodes`), the checks in
- * libnode_check.a (`rt staticlib node_check`); the archives can be linked together.
+/* ---- The table as one list of records. The first two calls are in target/staticlib/libnodes.a (`rust/run archives nodes`), the checks in
+ * libnode_check.a (`rust/run archives node_check`); the archives can be linked together.
  *
  * Each is the call of the same name over the list's three columns, with the index lent beside it: numbers, places, counts and
  * what the lists hold afterwards are those told there. A list of fewer than 2 or more than 65,536 places is refused with 7 and

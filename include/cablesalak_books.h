@@ -1,6 +1,6 @@
 /* Two rule books that share one table, checked call by call, for C and C++ on x86-64 with the System V calling convention (Linux).
  *
- * Link target/staticlib/libbooks_export.a, which `rt staticlib books_export` writes once every function is proved. It needs nothing of
+ * Link target/staticlib/libbooks_export.a, which `rust/run archives books_export` writes once every function is proved. It needs nothing of
  * libexport.a; the two can be linked together. docs/LINKING.md has the commands, docs/THEOREMS.md what is proved,
  * crates/books_export/src/lib.rt the contracts that the words below render.
  *

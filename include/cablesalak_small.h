@@ -1,7 +1,7 @@
 /* The proved check of a formula of at most six variables by truth table, for C and C++ on x86-64 with the System V calling convention
  * (Linux): a second method beside the check over diagrams.
  *
- * Link target/staticlib/libsmall_export.a, which `rt staticlib small_export` writes once every function is proved: 10 KB of code, no
+ * Link target/staticlib/libsmall_export.a, which `rust/run archives small_export` writes once every function is proved: 10 KB of code, no
  * table and no index. It needs nothing of libexport.a; the two can be linked together. docs/LINKING.md has the commands,
  * docs/THEOREMS.md what is proved, crates/small_export/src/lib.rt the contract that the words below render.
  *

@@ -1,5 +1,5 @@
 /* Why a check is refused: the offending piece of the formula or of the proof, and the true cause. The call is in
- * target/staticlib/libexplain.a (`rt staticlib explain`); link libexport.a with it, which has the version of the layout.
+ * target/staticlib/libexplain.a (`rust/run archives explain`); link libexport.a with it, which has the version of the layout.
  *
  * What is lent, and how the lists end, is told in cablesalak.h. */
 #ifndef CABLESALAK_WHY_H

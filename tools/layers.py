@@ -13,7 +13,7 @@ WORDS = {
     "causes": "a refusal's cause, defined", "pieces": "the piece shown", "traces": "literals fixed, by round",
     "why": "14's child, 18's assignment", "record_causes": "14's and 18's cause", "remake": "a line's records again", "tell": "19's cause",
     "path_causes": "19's, of a path line", "clause_causes": "19's, of a DRAT clause", "command_causes": "the cause of a command",
-    "line_again": "the refused state again", "cause_again": "its cause", "explain": "why a check refuses",
+    "line_again": "the refused state again", "cause_again": "its cause", "explain": "why a check refuses", "explain_c": "its archive",
     "meaning": "01's rules, defined", "records": "reads the proof", "words": "sets of variables", "table": "nodes, order, index",
     "dimacs": "reads the formula", "grammar": "what DIMACS is", "walks": "values, constants", "clause": "a clause's diagram",
     "verdict": "the check, defined", "operate": "the four operations", "thin": "without a memo", "memo": "results in cells",
@@ -24,7 +24,7 @@ WORDS = {
     "good_order": "good order, tested", "check_call": "sizes, working arrays", "state": "between two commands",
     "steps": "a record's step", "entries": "records that make entries", "formula": "makes the clauses",
     "replay": "command after command", "session": "the whole check", "checker": "calls with no requires",
-    "demands": "the demands' theorems", "order": "members in any order", "nodes": "single calls, node structs", "node_check": "the check, node structs", "report": "line and status",
+    "demands": "the demands' theorems", "order": "members in any order", "nodes": "single calls, node structs", "nodes_c": "its archive", "node_check": "the check, node structs", "report": "line and status",
     "report_in": "in the caller's table",
     "export": "the archive for C, Rust", "program": "two files, one line", "refute": "the program, records", "refute_drat": "the program, DRAT",
     "refute_in": "the program, a mode", "drat_convert": "the converter", "rows": "an example's line",
@@ -40,7 +40,7 @@ WORDS = {
     "book_open": "opened for two books", "book_line": "a line's call", "book_judge": "first and later calls", "book_sizes": "working arrays", "book_call": "a book's call",
     "book_kept": "what is kept, as lent", "books_export": "two books, for C, Rust",
 }
-OPEN = {"checker", "nodes", "node_check", "export", "small_export", "books_export", "refute", "refute_drat", "refute_in", "drat_convert", "cases", "changes"}
+OPEN = {"checker", "nodes", "nodes_c", "node_check", "explain_c", "export", "small_export", "books_export", "refute", "refute_drat", "refute_in", "drat_convert", "cases", "changes"}
 WIDTH, HEIGHT, ACROSS, UP, TOP = 158, 44, 190, 78, 64
 SOLID, DASHED = "#444444", "#3b6fb5"
 
@@ -50,7 +50,7 @@ def read_crates():
     for line in Path("crates.txt").read_text().splitlines():
         name, colon, deps = line.split("#")[0].partition(":")
         if colon:
-            crates[name.strip()] = deps.split()
+            crates[name.split()[0]] = deps.split()
     return {c: [d for d in ds if d in crates] for c, ds in crates.items()}
 
 

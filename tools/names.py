@@ -16,7 +16,7 @@ SOURCES = ["crates/*/src/**/*.rt", "crates/*/specs/**/*.antt", "crates/*/proofs/
 WORD = re.compile(r"[A-Za-z][\w'′-]*")
 # Words of the toolchain and of the notation, and placeholders of a command line.
 ELSEWHERE = set("rt doc git worktree add fmt goals dev must fail ci staticlib NAME WHAT OLD NEW CRATE FUNCTION EDIT TO FROM FILE HEAD FACT "
-                "axioms apply-call VERIFIED".split())
+                "axioms VERIFIED using search rules tactic auto cycle".split())
 
 
 def paths():

@@ -12,9 +12,9 @@ import re
 import sys
 from pathlib import Path
 
-# The open crates: their lib.rt, all of `report`, the exported call of `explain`.
-OPEN = ["checker", "nodes", "node_check", "export", "report", "report_in", "small_export", "books_export", "explain"]
-SOURCES = {"report": "*.rt", "explain": "linked.rt"}
+# The open crates: their lib.rt, all of `report`, the exported call over `explain`.
+OPEN = ["checker", "nodes", "nodes_c", "node_check", "export", "report", "report_in", "small_export", "books_export", "explain_c"]
+SOURCES = {"report": "*.rt"}
 PROGRAM = {("report", "Files"), ("report", "Line")}
 SMALL = {("small_verdict", "Small"), ("small", "Checked")}
 BOOKS = {("shares", "Shares"), ("shares", "Alone"), ("shares", "Books"), ("book_kept", "Kept"), ("book_kept", "Calls"),
@@ -51,7 +51,10 @@ class Believed:
         self.specs, self.types, self.kit, self.unknown, self.todo = set(), {}, {}, [], []
 
     def type(self, crate, name, where):
-        count = declared(crate, name)
+        count, lib = declared(crate, name), Path("crates", crate, "src", "lib.rt")
+        again = re.search(rf"^pub use (\w+)::(?:\w+::)*(?:\{{[^}}]*)?\b{name}\b", lib.read_text(), re.M) if lib.exists() else None
+        if not count and again and again[1] != crate:
+            return self.type(again[1] if Path("crates", again[1]).is_dir() else crate, name, where)
         if count:
             self.types[crate, name] = count
         else:
@@ -63,14 +66,14 @@ class Believed:
             if "::" in name:
                 continue
             words = [w.split(" as ")[0].strip() for w in members.split(",") if w.strip()]
-            ours = re.match(r"Rattle·([a-z_]+)(?:·specs)?\.specs\.(.*)$", name)
+            ours = re.match(r"Rattle\.([a-z_]+)\.(specs|proofs)\.(.*)$", name)
             if name.startswith(KIT) or (ours and not Path("crates", ours[1]).is_dir()):
-                kit = f"{ours[1]}/specs/{ours[2]}" if ours else name
+                kit = f"{ours[1]}/{ours[2]}/{ours[3]}" if ours else name
                 self.kit.setdefault(kit, set()).update(words)
-            elif ours and ours[2].startswith("declared."):
-                self.type(ours[1], ours[2].removesuffix(".the-variants").split(".")[-1], path)
-            elif ours and spec((ours[1], ours[2])).exists():
-                self.todo.append((ours[1], ours[2]))
+            elif ours and ours[3].startswith("declared."):
+                self.type(ours[1], ours[3].removesuffix(".TheVariants").removesuffix(".TheConstants").split(".")[-1], path)
+            elif ours and ours[2] == "specs" and spec((ours[1], ours[3])).exists():
+                self.todo.append((ours[1], ours[3]))
             else:
                 self.unknown.append(f"{name} ({path})")
 

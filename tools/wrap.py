@@ -115,7 +115,7 @@ def check():
         for name in sorted(glob.glob(pattern, recursive=True)):
             text = open(name, encoding="utf-8").read()
             before += text.count(".before")
-            run = max([run] + [m.group(0).count(".before") for m in re.finditer(r"(?:\s+\.before)+", text)])
+            run = max([run] + [m.group(0).count(".before") for m in re.finditer(r"(?:\s*\.before)+", text)])
             for k, line in enumerate(text.split("\n"), 1):
                 if ROWS.fullmatch(line):
                     continue

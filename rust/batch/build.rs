@@ -20,7 +20,7 @@ fn git(words: &[&str]) -> Option<String> {
 fn name(variable: &str, folder: &str, library: &str) {
     let archive = format!("{folder}/lib{library}.a");
     let bytes = fs::read(&archive).unwrap_or_else(|error| {
-        panic!("{archive}: {error}: write it with `rt staticlib {library}`, or name its folder in {FOLDER}")
+        panic!("{archive}: {error}: write it with `rust/run archives {library}`, or name its folder in {FOLDER}")
     });
     println!("cargo:rerun-if-changed={archive}");
     println!("cargo:rustc-env={variable}={}", sha256::hex(&sha256::of(&bytes)));

@@ -1,4 +1,4 @@
-//! Links the archive that `rt staticlib books_export` writes. No other crate links it.
+//! Links the archive that `rust/run archives books_export` writes. No other crate links it.
 
 #[path = "../cablesalak/link.rs"]
 mod link;

@@ -1,4 +1,4 @@
-//! Links the archives that `rt staticlib` writes of `export`, `explain`, `nodes` and `node_check`. No other crate links them.
+//! Links the archives that `rust/run archives` writes: `export`, `explain`, `nodes` and `node_check`. No other crate links them.
 
 mod link;
 

@@ -1,4 +1,4 @@
-//! For build scripts, also of the crates beside this one: links archives that `rt staticlib` writes.
+//! For build scripts, also of the crates beside this one: links archives that `rust/run archives` writes.
 
 use std::env;
 use std::path::Path;
@@ -19,7 +19,7 @@ pub fn archives(names: &[&str]) {
         println!("cargo:rustc-link-lib=static={name}");
         assert!(
             Path::new(&folder).join(format!("lib{name}.a")).exists(),
-            "no lib{name}.a in {folder}: write it with `rt staticlib {name}`, or name its folder in {FOLDER}"
+            "no lib{name}.a in {folder}: write it with `rust/run archives {name}`, or name its folder in {FOLDER}"
         );
     }
     // For the tests, which link C programs too.

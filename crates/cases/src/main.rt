@@ -4,21 +4,23 @@
 mod checks;
 mod singles;
 
-fn main() {
-    checks::cases_a_to_c();
-    checks::cases_d_to_f();
-    singles::case_g();
-    checks::cases_i_and_j();
-    checks::formulas();
-    checks::one_place();
-    checks::two_places();
-    checks::records();
-    checks::witnesses_and_ends();
-    checks::too_many_entries();
-    checks::too_many_lines();
-    checks::three_places();
-    singles::wrong_size();
-    singles::not_in_order();
-    singles::wrong_operands();
-    singles::full();
+use std::io;
+
+fn main(rt: HostRuntime) -> io::Result<()> {
+    checks::cases_a_to_c(&rt)?;
+    checks::cases_d_to_f(&rt)?;
+    singles::case_g(&rt)?;
+    checks::cases_i_and_j(&rt)?;
+    checks::formulas(&rt)?;
+    checks::one_place(&rt)?;
+    checks::two_places(&rt)?;
+    checks::records(&rt)?;
+    checks::witnesses_and_ends(&rt)?;
+    checks::too_many_entries(&rt)?;
+    checks::too_many_lines(&rt)?;
+    checks::three_places(&rt)?;
+    singles::wrong_size(&rt)?;
+    singles::not_in_order(&rt)?;
+    singles::wrong_operands(&rt)?;
+    singles::full(&rt)
 }

@@ -1,18 +1,25 @@
 // The examples of single calls.
 use rows::print;
+use std::io;
 use table::NodeNo;
 
 // Node 6's variable, low and high.
-fn print_node(label: &[u8], vars: &[u8; 7], lows: &[u16; 7], highs: &[u16; 7]) {
-    print::label(label);
-    print::byte(vars[6]);
-    print::short(lows[6]);
-    print::short(highs[6]);
-    print::end();
+fn print_node(
+    rt: &impl Print,
+    label: &[u8],
+    vars: &[u8; 7],
+    lows: &[u16; 7],
+    highs: &[u16; 7],
+) -> io::Result<()> {
+    print::label(rt, label)?;
+    print::byte(rt, vars[6])?;
+    print::short(rt, lows[6])?;
+    print::short(rt, highs[6])?;
+    print::end(rt)
 }
 
 // The table: x2, not-x2, x1 xor x2, x1 as nodes 2 to 5, and one free place. x2 by the xor is not-x1, a new node; x1 by it is x1.
-pub fn case_g() {
+pub fn case_g(rt: &impl Print) -> io::Result<()> {
     let mut vars = [0u8, 0, 2, 2, 1, 1, 0];
     let mut lows = [0u16, 0, 0, 1, 2, 0, 0];
     let mut highs = [0u16, 0, 1, 0, 3, 1, 0];
@@ -28,8 +35,8 @@ pub fn case_g() {
         NodeNo(2),
         NodeNo(4),
     );
-    rows::print_single(b"G", r);
-    print_node(b"G node 6", &vars, &lows, &highs);
+    rows::print_single(rt, b"G", r)?;
+    print_node(rt, b"G node 6", &vars, &lows, &highs)?;
     let s = checker::cofactor(
         &mut vars,
         &mut lows,
@@ -40,20 +47,22 @@ pub fn case_g() {
         NodeNo(5),
         NodeNo(4),
     );
-    rows::print_single(b"G", s);
+    rows::print_single(rt, b"G", s)
 }
 
-pub fn wrong_size() {
+pub fn wrong_size(rt: &impl Print) -> io::Result<()> {
     let mut vars = [0u8; 1];
     let mut lows = [0u16; 1];
     let mut highs = [0u16; 1];
     let mut heads = [0u16; 2];
     let mut links = [0u16; 1];
     rows::print_evaluated(
+        rt,
         b"7 evaluate",
         checker::evaluate(&vars, &lows, &highs, &heads, &links, 2, NodeNo(1), 0),
-    );
+    )?;
     rows::print_single(
+        rt,
         b"7 negation",
         checker::negation(
             &mut vars,
@@ -64,20 +73,21 @@ pub fn wrong_size() {
             2,
             NodeNo(1),
         ),
-    );
+    )
 }
 
 // Node 2 = 1, 0, 0.
-pub fn not_in_order() {
+pub fn not_in_order(rt: &impl Print) -> io::Result<()> {
     let mut vars = [0u8, 0, 1];
     let mut lows = [0u16; 3];
     let mut highs = [0u16; 3];
     let mut heads = [0u16, 2, 0, 0, 0, 0];
     let mut links = [0u16; 3];
     rows::print_evaluated(
+        rt,
         b"26 evaluate",
         checker::evaluate(&vars, &lows, &highs, &heads, &links, 3, NodeNo(1), 0),
-    );
+    )?;
     let r = checker::conjunction(
         &mut vars,
         &mut lows,
@@ -88,20 +98,21 @@ pub fn not_in_order() {
         NodeNo(1),
         NodeNo(1),
     );
-    rows::print_single(b"26 conjunction", r);
+    rows::print_single(rt, b"26 conjunction", r)
 }
 
 // The constants alone.
-pub fn wrong_operands() {
+pub fn wrong_operands(rt: &impl Print) -> io::Result<()> {
     let mut vars = [0u8; 2];
     let mut lows = [0u16; 2];
     let mut highs = [0u16; 2];
     let mut heads = [0u16; 4];
     let mut links = [0u16; 2];
     rows::print_evaluated(
+        rt,
         b"13 evaluate",
         checker::evaluate(&vars, &lows, &highs, &heads, &links, 2, NodeNo(2), 0),
-    );
+    )?;
     let r = checker::conjunction(
         &mut vars,
         &mut lows,
@@ -112,7 +123,7 @@ pub fn wrong_operands() {
         NodeNo(1),
         NodeNo(2),
     );
-    rows::print_single(b"13 conjunction", r);
+    rows::print_single(rt, b"13 conjunction", r)?;
     let s = checker::cofactor(
         &mut vars,
         &mut lows,
@@ -123,7 +134,7 @@ pub fn wrong_operands() {
         NodeNo(1),
         NodeNo(0),
     );
-    rows::print_single(b"27 cofactor", s);
+    rows::print_single(rt, b"27 cofactor", s)?;
     let t = checker::cofactor_literals(
         &mut vars,
         &mut lows,
@@ -135,11 +146,11 @@ pub fn wrong_operands() {
         1,
         1,
     );
-    rows::print_single(b"15 literals", t);
+    rows::print_single(rt, b"15 literals", t)
 }
 
 // x1 is node 2 of three places: its negation finds no room.
-pub fn full() {
+pub fn full(rt: &impl Print) -> io::Result<()> {
     let mut vars = [0u8, 0, 1];
     let mut lows = [0u16; 3];
     let mut highs = [0u16, 0, 1];
@@ -154,5 +165,5 @@ pub fn full() {
         3,
         NodeNo(2),
     );
-    rows::print_single(b"23 negation", r);
+    rows::print_single(rt, b"23 negation", r)
 }

@@ -9,29 +9,31 @@ mod sets;
 mod strikes;
 mod texts;
 
-fn main() {
-    comments::everywhere();
-    comments::whole_line();
-    comments::tokens();
-    comments::places();
-    strikes::refused();
-    strikes::case_a();
-    strikes::others();
-    strikes::no_proof();
-    strikes::too_few_marks();
-    orders::rounds();
-    orders::little_room();
-    orders::pr_with_more();
-    indexes::wrong_heads();
-    indexes::wrong_links();
-    indexes::single_calls();
-    indexes::checked();
-    sets::parities();
-    sets::at_leasts();
-    sets::five_places();
-    sets::single_calls();
-    texts::accepted();
-    texts::refused();
-    texts::in_formula();
-    texts::five_places();
+use std::io;
+
+fn main(rt: HostRuntime) -> io::Result<()> {
+    comments::everywhere(&rt)?;
+    comments::whole_line(&rt)?;
+    comments::tokens(&rt)?;
+    comments::places(&rt)?;
+    strikes::refused(&rt)?;
+    strikes::case_a(&rt)?;
+    strikes::others(&rt)?;
+    strikes::no_proof(&rt)?;
+    strikes::too_few_marks(&rt)?;
+    orders::rounds(&rt)?;
+    orders::little_room(&rt)?;
+    orders::pr_with_more(&rt)?;
+    indexes::wrong_heads(&rt)?;
+    indexes::wrong_links(&rt)?;
+    indexes::single_calls(&rt)?;
+    indexes::checked(&rt)?;
+    sets::parities(&rt)?;
+    sets::at_leasts(&rt)?;
+    sets::five_places(&rt)?;
+    sets::single_calls(&rt)?;
+    texts::accepted(&rt)?;
+    texts::refused(&rt)?;
+    texts::in_formula(&rt)?;
+    texts::five_places(&rt)
 }

@@ -1,4 +1,4 @@
--- Two texts compared byte by byte: what is left to be compared decides; and the direction that a word names. Assumes nothing.
+-- Two texts compared byte by byte: what is left to be compared decides.
 use mathlib.Core.Path.{◌≡◌, refl, ap}
 use mathlib.Core.Bool.{true, false}
 use mathlib.Core.List.{List, [], ◌∷◌}
@@ -10,8 +10,7 @@ use lib.Dec.{eqb}
 use lib.Seq.{drop-cons}
 use borrow.Author.Tests.{eq-eqb, ne_eqb}
 use Rattle.dimacs.proofs.Cases.{by}
-use Rattle.drat_convert.specs.declared.Direction.TheVariants.{ToBinary, ToText, Unknown}
-use Rattle.drat_convert.specs.Converting.{same_bytes, to_binary_word, to_text_word, direction_named}
+use Rattle.drat_convert.specs.Converting.{same_bytes}
 
 pub different : (a b : List ℕ) → (length a ≡ length b → ⊥) → false ≡ same_bytes a b
 unfolding same_bytes
@@ -43,15 +42,3 @@ module _ (a b : List ℕ) (i : ℕ) (e : length a ≡ length b) where
 
   pub alike-to-end : length a ≤ i → true ≡ same_bytes (drop i a) (drop i b)
   alike-to-end h = all_alike (drop i a) (drop i b) (drop_past a i h) (drop_past b i (omega arith))
-
--- ---- the direction
-
-module _ (word : List ℕ) where
-  pub named-binary : same_bytes word to_binary_word ≡ true → ToBinary ≡ direction_named word
-  named-binary e = rw e
-
-  pub named-text : same_bytes word to_binary_word ≡ false → same_bytes word to_text_word ≡ true → ToText ≡ direction_named word
-  named-text e f = rw (e, f)
-
-  pub named-neither : same_bytes word to_binary_word ≡ false → same_bytes word to_text_word ≡ false → Unknown ≡ direction_named word
-  named-neither e f = rw (e, f)

@@ -13,17 +13,8 @@ use Rattle.meaning.specs.Operations.{Literal}
 use Rattle.commands.specs.declared.Form.TheVariants.{Text, Binary}
 use Rattle.convert.specs.Convert.{Lines, lines_of, binary_line, text_line, printed, Conversion, conversion_of, settled, converted_by, to_binary}
 use Rattle.convert.specs.Convert.{to_text}
-use Rattle.report.specs.Line.{field_text, Put}
 use Rattle.dimacs.proofs.Cases.{by}
-use Rattle.report.proofs.Putting.{put_then}
 use Rattle.drat_convert.specs.Converting.{conversion_line, conversion_to, written_for}
-
--- ---- the line
-
-pub three-fields : {xs ws bs es : List ℕ} {a b e : ℕ} (number place length : ℕ) → Put xs 0 (field_text number 32) ws a →
-    Put ws a (field_text place 32) bs b
-    → Put bs b (field_text length 10) es e → Put xs 0 (conversion_line number place length) es e
-three-fields number place length f g h = put_then f (put_then g h)
 
 -- ---- the file's refusal
 
@@ -74,7 +65,3 @@ module _ (d : Bool) (is_read : Bool) (file out : List ℕ) (k : Converted) (e : 
   pub in-text : d ≡ false → (room : ℕ) → room ≡ 262144 → conversion_of out k ≡ to_text room file
       → (conversion_line k.number k.place k.length ++ take k.length out ≡ written_for d is_read file) × (k.length ≤ 262144)
   in-text q room r is = taken (is ∙ ap (λ (n : ℕ). to_text n file) r ∙ sym (ap (λ (x : Bool). conversion_to x file) q))
-
--- The line, and behind it the result.
-pub onto : (line head result all : List ℕ) → line ≡ head → head ++ result ≡ all → line ++ result ≡ all
-onto line head result all e is = ap (λ (l : List ℕ). l ++ result) e ∙ is

@@ -6,8 +6,9 @@ ghost use Rattle.std.specs.Prelude.{◌≡◌, ◌++◌, ◌≤◌, length, take
 ghost use Rattle.drat_convert.specs.Converting.{same_bytes, direction_named, conversion_line, written_for};
 
 use convert::Converted;
-use libc::{STDERR_FILENO, STDOUT_FILENO};
 use program::Text;
+use std::io;
+use std::rt::{Env, Files};
 
 // The most bytes of a file.
 const LONGEST: usize = 65536;
@@ -89,17 +90,28 @@ fn put_line(told: Converted, line: &mut [u8]) -> usize
 }
 
 // The writes to standard output. They are passed nothing but the definition's bytes for the file that was read: the caller has shown that.
-fn deliver<'a>(line: &'a [u8], res: &'a [u8], binary: bool, read: bool, file: &'a [u8]) -> bool
-    requires { line.now ++ res.now ≡ written_for binary read file.now }
+fn deliver<'a>(
+    rt: &impl Print,
+    line: &'a [u8],
+    bytes: &'a [u8],
+    binary: bool,
+    read: bool,
+    file: &'a [u8],
+) -> io::Result<()>
+    requires { line.now ++ bytes.now ≡ written_for binary read file.now }
 {
-    if io::write_all(STDOUT_FILENO, line) {
-        return io::write_all(STDOUT_FILENO, res);
-    }
-    false
+    rt.write_all(line)?;
+    rt.write_all(bytes)
 }
 
 // The line and the result for what was read: the second argument names the file.
-fn answer<'a>(binary: bool, f: Text, file: &'a [u8], out: &mut [u8]) -> bool
+fn answer<'a>(
+    rt: &impl Print,
+    binary: bool,
+    f: Text,
+    file: &'a [u8],
+    out: &mut [u8],
+) -> io::Result<()>
     requires { (f.argument ≡ 2) × (length out.old ≡ 262144) }
 {
     let read = f.read;
@@ -107,37 +119,45 @@ fn answer<'a>(binary: bool, f: Text, file: &'a [u8], out: &mut [u8]) -> bool
     let mut line = [0u8; 63];
     let end = put_line(told, &mut line);
     let length = told.length;
-    deliver(&line[..end], &out[..length], binary, read, file)
+    deliver(rt, &line[..end], &out[..length], binary, read, file)
 }
 
 // A buffer has one byte more than a file may have, so that a file that is too long fills more than 65,536 bytes of it.
-fn run(binary: bool, file: &mut [u8], out: &mut [u8]) -> bool
+fn run(
+    rt: &(impl Env + Files + Print),
+    binary: bool,
+    file: &mut [u8],
+    out: &mut [u8],
+) -> io::Result<()>
     requires { length out.old ≡ 262144 }
 {
-    let f = program::read_argument(2, file);
+    let f = program::read_argument(rt, 2, file);
     let length = f.length;
-    answer(binary, f, &file[..length], out)
+    answer(rt, binary, f, &file[..length], out)
 }
 
 // The first argument names the direction.
-fn start(given: Text, word: &[u8], file: &mut [u8], out: &mut [u8]) -> bool
+fn start(
+    rt: &(impl Env + Files + Print + Eprint),
+    given: Text,
+    word: &[u8],
+    file: &mut [u8],
+    out: &mut [u8],
+) -> io::Result<()>
     requires { (given.argument ≡ 1) × (length out.old ≡ 262144) }
 {
     match direction_of(word) {
-        Direction::ToBinary => run(true, file, out),
-        Direction::ToText => run(false, file, out),
-        Direction::Unknown => io::write_all(
-            STDERR_FILENO,
-            b"drat_convert to-binary|to-text FILE\n",
-        ),
+        Direction::ToBinary => run(rt, true, file, out),
+        Direction::ToText => run(rt, false, file, out),
+        Direction::Unknown => rt.eprintln("drat_convert to-binary|to-text FILE"),
     }
 }
 
-fn main() {
+fn main(rt: HostRuntime) -> io::Result<()> {
     let mut file = [0u8; 65537];
     let mut out = [0u8; 262144];
-    let mut word = io::buffer();
-    let given = program::read_word(1, &mut word);
+    let mut word = [0u8; program::LONGEST_WORD];
+    let given = program::read_word(&rt, 1, &mut word);
     let length = given.length;
-    start(given, &word[..length], &mut file, &mut out);
+    start(&rt, given, &word[..length], &mut file, &mut out)
 }

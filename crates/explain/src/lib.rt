@@ -2,7 +2,6 @@
 #![tactic(auto)]
 
 pub mod call;
-mod linked;
 
 // `shown` gives the part that a call names as a part of the caller's own bytes.
 pub use pieces::{Part, shown};

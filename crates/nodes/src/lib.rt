@@ -1,5 +1,5 @@
-// The single calls over the node table as one lent slice of node structs, with its index; crate `node_check` has the check. Each tests for
-// itself all that it needs, and none has a `requires`.
+// The single calls over the node table as one lent slice of node structs, with its index; crate `node_check` has the check, and `nodes_c`
+// offers two of these calls to C. Each tests for itself all that it needs, and none has a `requires`.
 #![tactic(auto)]
 
 mod within;
@@ -56,8 +56,7 @@ pub fn operation(
 }
 
 // The diagram of "at least k of the set's variables", and how many assignments of the set it excludes; or 7, 26, 23.
-#[unsafe(no_mangle)]
-pub extern "C" fn cablesalak_at_least_nodes(
+pub fn at_least(
     nodes: &mut [Node],
     heads: &mut [u16],
     links: &mut [u16],
@@ -92,8 +91,7 @@ pub extern "C" fn cablesalak_at_least_nodes(
 }
 
 // Whether the node is 1 under the word's assignment; or 7, 26, 13.
-#[unsafe(no_mangle)]
-pub extern "C" fn cablesalak_evaluate_nodes(
+pub fn evaluate(
     nodes: &[Node],
     heads: &[u16],
     links: &[u16],

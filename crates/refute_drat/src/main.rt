@@ -2,13 +2,14 @@
 #![tactic(auto)]
 
 use commands::{Form, Mode};
+use std::io;
 
-fn main() {
+fn main(rt: HostRuntime) -> io::Result<()> {
     let mut formula = [0u8; 65537];
     let mut proof = [0u8; 65537];
     let mode = Mode {
         form: Form::Text,
         consequence: false,
     };
-    program::run(mode, &mut formula, &mut proof);
+    program::run(&rt, mode, &mut formula, &mut proof)
 }

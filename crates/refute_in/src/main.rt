@@ -7,8 +7,9 @@ ghost use Rattle.std.specs.Prelude.{◌≡◌};
 ghost use Rattle.refute_in.specs.Words.{form_named, mode_named};
 
 use commands::{Form, Mode};
-use libc::STDERR_FILENO;
 use program::Text;
+use std::io;
+use std::rt::{Env, Files};
 
 // What a word names.
 #[derive(Clone, Copy)]
@@ -57,22 +58,26 @@ fn mode_of(word: &[u8]) -> Named
 }
 
 // The check in the mode that the third argument names.
-fn start(given: Text, word: &[u8], formula: &mut [u8], proof: &mut [u8])
+fn start(
+    rt: &(impl Env + Files + Print + Eprint),
+    given: Text,
+    word: &[u8],
+    formula: &mut [u8],
+    proof: &mut [u8],
+) -> io::Result<()>
     requires { given.argument ≡ 3 }
 {
     match mode_of(word) {
-        Named::Known(mode) => program::run(mode, formula, proof),
-        Named::Unknown => {
-            io::write_all(STDERR_FILENO, b"refute_in FORMULA PROOF r|rc|t|tc|b|bc\n");
-        }
+        Named::Known(mode) => program::run(rt, mode, formula, proof),
+        Named::Unknown => rt.eprintln("refute_in FORMULA PROOF r|rc|t|tc|b|bc"),
     }
 }
 
-fn main() {
+fn main(rt: HostRuntime) -> io::Result<()> {
     let mut formula = [0u8; 65537];
     let mut proof = [0u8; 65537];
-    let mut word = io::buffer();
-    let given = program::read_word(3, &mut word);
+    let mut word = [0u8; program::LONGEST_WORD];
+    let given = program::read_word(&rt, 3, &mut word);
     let length = given.length;
-    start(given, &word[..length], &mut formula, &mut proof);
+    start(&rt, given, &word[..length], &mut formula, &mut proof)
 }

@@ -4,8 +4,7 @@
 
 mod put;
 
-ghost use Rattle.std.specs.Prelude.{◌≡◌, length, take, drop};
-ghost use Rattle.io.specs.Counts.{IsPrefixLen};
+ghost use Rattle.std.specs.Prelude.{◌≡◌, ◌≤◌, length, take, drop};
 ghost use Rattle.verdict.specs.Check.{verdict};
 ghost use Rattle.verdict.specs.Satisfies.{Unsatisfiable};
 ghost use Rattle.report.specs.Files.{file_refused, of_verdict, of_files, said, status_of};
@@ -143,7 +142,7 @@ pub fn report<'a>(
         ≡ line_bytes (said mode first formula.now second proof.now) }
     ensures line_unchanged { drop result.length line.new ≡ drop result.length line.old }
     ensures status_value { result.status ≡ status_of (said mode first formula.now second proof.now).number }
-    ensures prefix_len { IsPrefixLen result.length line.new }
+    ensures prefix_len { result.length ≤ length line.new }
     ensures length_value { result.length ≡ length (line_bytes (said mode first formula.now second proof.now)) }
     ensures unsatisfiable { result.status ≡ 0 → Unsatisfiable formula.now }
 {

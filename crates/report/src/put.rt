@@ -1,6 +1,5 @@
 // Bytes put into a line one after the other. Each function answers the place after the last byte that it put.
 ghost use Rattle.std.specs.Prelude.{◌≡◌, [], ◌∷◌, ◌+◌, ◌<◌, ◌≤◌, length, take, drop};
-ghost use Rattle.io.specs.Counts.{IsPrefixLen};
 ghost use Rattle.report.specs.Line.{decimal, field_text, line_bytes, Put};
 
 use crate::Line;
@@ -39,7 +38,7 @@ pub fn put_field(n: u64, parting: u8, line: &mut [u8], at: usize) -> usize
 pub fn put_line(told: Line, line: &mut [u8; 105]) -> usize
     ensures line_after { take result line.new ≡ line_bytes told }
     ensures line_unchanged { drop result line.new ≡ drop result line.old }
-    ensures prefix_len { IsPrefixLen result line.new }
+    ensures prefix_len { result ≤ length line.new }
 {
     put_fields(told, line)
 }
@@ -48,7 +47,7 @@ fn put_fields(told: Line, line: &mut [u8]) -> usize
     requires { 105 ≤ length line.old }
     ensures line_after { take result line.new ≡ line_bytes told }
     ensures line_unchanged { drop result line.new ≡ drop result line.old }
-    ensures prefix_len { IsPrefixLen result line.new }
+    ensures prefix_len { result ≤ length line.new }
 {
     let after_number = put_field(told.number as u64, b' ', line, 0);
     let after_place = put_field(told.place as u64, b' ', line, after_number);

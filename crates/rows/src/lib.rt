@@ -8,37 +8,39 @@ pub mod print;
 use session::Checked;
 use single::Evaluated;
 use single::call::Single;
+use std::io;
 
 // The line but for its end.
-pub fn print_said(label: &[u8], r: Checked) {
-    print::label(label);
-    print::number(r.number as u64);
-    print::number(r.place as u64);
-    print::number(r.lines as u64);
-    print::number(r.rounds);
-    print::number(r.count as u64);
-    print::number(r.peak as u64);
+pub fn print_said(rt: &impl Print, label: &[u8], r: Checked) -> io::Result<()> {
+    print::label(rt, label)?;
+    print::number(rt, r.number as u64)?;
+    print::number(rt, r.place as u64)?;
+    print::number(rt, r.lines as u64)?;
+    print::number(rt, r.rounds)?;
+    print::number(rt, r.count as u64)?;
+    print::number(rt, r.peak as u64)
 }
 
-pub fn print_single(label: &[u8], r: Single) {
+pub fn print_single(rt: &impl Print, label: &[u8], r: Single) -> io::Result<()> {
     let node = r.node;
-    print::label(label);
-    print::number(r.number as u64);
-    print::number(node.0 as u64);
-    print::number(r.count as u64);
-    print::end();
+    print::label(rt, label)?;
+    print::number(rt, r.number as u64)?;
+    print::number(rt, node.0 as u64)?;
+    print::number(rt, r.count as u64)?;
+    print::end(rt)
 }
 
-pub fn print_evaluated(label: &[u8], r: Evaluated) {
-    print::label(label);
-    print::number(r.number as u64);
-    print::number(r.yes as u64);
-    print::number(r.count as u64);
-    print::end();
+pub fn print_evaluated(rt: &impl Print, label: &[u8], r: Evaluated) -> io::Result<()> {
+    print::label(rt, label)?;
+    print::number(rt, r.number as u64)?;
+    print::number(rt, r.yes as u64)?;
+    print::number(rt, r.count as u64)?;
+    print::end(rt)
 }
 
 // The line of a check but for its end. The count lent is 9, which only number 7 hands back.
 pub fn say_in<'a>(
+    rt: &impl Print,
     label: &[u8],
     vars: &mut [u8],
     lows: &mut [u16],
@@ -48,7 +50,7 @@ pub fn say_in<'a>(
     struck: &mut [u8],
     formula: &'a [u8],
     proof: &'a [u8],
-) {
+) -> io::Result<()> {
     let mut members = [0u16; 2048];
     let mut scratch = [0u16; 4096];
     let r = checker::check(
@@ -64,10 +66,11 @@ pub fn say_in<'a>(
         formula,
         proof,
     );
-    print_said(label, r);
+    print_said(rt, label, r)
 }
 
 pub fn run_in<'a>(
+    rt: &impl Print,
     label: &[u8],
     vars: &mut [u8],
     lows: &mut [u16],
@@ -76,9 +79,10 @@ pub fn run_in<'a>(
     links: &mut [u16],
     formula: &'a [u8],
     proof: &'a [u8],
-) {
+) -> io::Result<()> {
     let mut struck = [0u8; 2048];
     say_in(
+        rt,
         label,
         vars,
         lows,
@@ -88,18 +92,23 @@ pub fn run_in<'a>(
         &mut struck,
         formula,
         proof,
-    );
-    print::end();
+    )?;
+    print::end(rt)
 }
 
 // The check with a table of 4,096 places.
-pub fn run<'a>(label: &[u8], formula: &'a [u8], proof: &'a [u8]) {
+pub fn run<'a>(
+    rt: &impl Print,
+    label: &[u8],
+    formula: &'a [u8],
+    proof: &'a [u8],
+) -> io::Result<()> {
     let mut vars = [0u8; 4096];
     let mut lows = [0u16; 4096];
     let mut highs = [0u16; 4096];
     let mut heads = [0u16; 8192];
     let mut links = [0u16; 4096];
     run_in(
-        label, &mut vars, &mut lows, &mut highs, &mut heads, &mut links, formula, proof,
-    );
+        rt, label, &mut vars, &mut lows, &mut highs, &mut heads, &mut links, formula, proof,
+    )
 }

@@ -1,33 +1,30 @@
 // A line's parts: a label, numbers, the end; and a line of numbers.
-use libc::STDOUT_FILENO;
+use std::io;
 
-pub fn label(text: &[u8]) {
-    io::write_all(STDOUT_FILENO, text);
+pub fn label(rt: &impl Print, text: &[u8]) -> io::Result<()> {
+    rt.write_all(text)
 }
 
-pub fn number(n: u64) {
-    io::write_all(STDOUT_FILENO, b" ");
-    io::print_decimal(STDOUT_FILENO, n);
+pub fn number(rt: &impl Print, n: u64) -> io::Result<()> {
+    print!(rt; " {n}")
 }
 
-pub fn byte(n: u8) {
-    number(n as u64);
+pub fn byte(rt: &impl Print, n: u8) -> io::Result<()> {
+    number(rt, n as u64)
 }
 
-pub fn short(n: u16) {
-    number(n as u64);
+pub fn short(rt: &impl Print, n: u16) -> io::Result<()> {
+    number(rt, n as u64)
 }
 
-pub fn end() {
-    io::write_all(STDOUT_FILENO, b"\n");
+pub fn end(rt: &impl Print) -> io::Result<()> {
+    rt.write_all(b"\n")
 }
 
-pub fn numbers(text: &[u8], list: &[u16]) {
-    label(text);
-    let mut i: usize = 0;
-    while i < list.len() {
-        short(list[i]);
-        i += 1;
+pub fn numbers(rt: &impl Print, text: &[u8], list: &[u16]) -> io::Result<()> {
+    label(rt, text)?;
+    for n in list {
+        short(rt, *n)?;
     }
-    end();
+    end(rt)
 }
