@@ -30,11 +30,11 @@ bounds-nodes-k c = omega (
 pub loop-k-preserved : goal.loop-k-preserved
 loop-k-preserved c =
     let w = c.loop-k in
-    filling-next c.args.list.now c.args.places.now c.args.nodes.now w.nodes w.k w.inv
+    filling-next c.args.list.now c.args.places.now c.args.nodes.now w.nodes w.k w.invariant
     c.loop-k-test.true c.requires.1
 
 pub returns : goal.returns
 returns c =
     let w = c.loop-k in
-    filling-all c.args.list.now c.args.places.now c.args.nodes.now w.nodes w.k w.inv
+    filling-all c.args.list.now c.args.places.now c.args.nodes.now w.nodes w.k w.invariant
     (omega (arith, c.loop-k-test.false)) c.requires.1
