@@ -1,6 +1,5 @@
 -- `with_node` adds the variable where all are asked for, else where one of the two numbers is 0. Assumes nothing.
 use mathlib.Core.Path.{sym, ◌∙◌}
-use borrow.Author.Rules.{rules}
 use Rattle.supports.proofs.ForcedWords.{with_all, with-some}
 use Rattle.supports.proofs.with_node.Goals as goal
 
