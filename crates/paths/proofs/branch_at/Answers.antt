@@ -1,5 +1,4 @@
 -- `branch_at` reads the node at its place. Assumes nothing.
-use borrow.Author.Rules.{rules}
 use Rattle.paths.proofs.Walks.{branch-is}
 use Rattle.paths.proofs.branch_at.Goals as goal
 
