@@ -17,20 +17,18 @@ use Rattle.formula.proofs.read_clauses.Goals as goal
 module _ (a : lts.After-make tie.the-claims reads.Pre reads.Post goal.the-invariant-loop-number goal.the-decreases-loop-number tie.handed_clauses) where
   abbrev left : Outcome
   left =
-      let x = a.make-p.new in
-      outcome_of x.0 x.1.0 x.1.1.0 x.1.1.1.0 x.1.1.1.1.0 a.make-p.result
+      outcome_of a.make-p.new.vars a.make-p.new.lows a.make-p.new.highs a.make-p.new.heads a.make-p.new.links a.make-p.result
 
 pub loop-number-init : goal.loop-number-init
-loop-number-init c =
-    (
-      building-start _ _ _ _ _ (omega (arith, c.requires)) (omega (arith, c.requires)) (omega (arith, c.requires)) _ _ refl c.requires.opened,
-      refl,
-      refl,
-      refl,
-      refl,
-      refl,
-      refl,
-    )
+loop-number-init c = (
+  building-start _ _ _ _ _ (omega (arith, c.requires)) (omega (arith, c.requires)) (omega (arith, c.requires)) _ _ refl c.requires.opened,
+  refl,
+  refl,
+  refl,
+  refl,
+  refl,
+  refl,
+)
 
 pub overflow_sub-wanted : goal.overflow_sub-wanted
 overflow_sub-wanted c =
@@ -65,137 +63,114 @@ shape_of-members-in-End c =
     c.loop-number.invariant.6
 
 pub returns-in-End : goal.returns-in-End
-returns-in-End c = record { from_value = building-end _ _ _ _ _ _ _ _ _ c.loop-number.invariant.0
-      (sym c.next_clause.ensures ∙ c.in-End.is); begins = c.loop-number.invariant.0.built }
+returns-in-End c = record {
+  from_value = building-end _ _ _ _ _ _ _ _ _ c.loop-number.invariant.0
+      (sym c.next_clause.ensures ∙ c.in-End.is);
+  begins = c.loop-number.invariant.0.built;
+}
 
 pub shape_of-vars-in-Refused : goal.shape_of-vars-in-Refused
 shape_of-vars-in-Refused c =
-    let at-loop = c.before.before.before.before in
-    at-loop.loop.inv.1
+    c.loop-number.invariant.1
 
 pub shape_of-lows-in-Refused : goal.shape_of-lows-in-Refused
 shape_of-lows-in-Refused c =
-    let at-loop = c.before.before.before.before in
-    at-loop.loop.inv.2
+    c.loop-number.invariant.2
 
 pub shape_of-highs-in-Refused : goal.shape_of-highs-in-Refused
 shape_of-highs-in-Refused c =
-    let at-loop = c.before.before.before.before in
-    at-loop.loop.inv.3
+    c.loop-number.invariant.3
 
 pub shape_of-heads-in-Refused : goal.shape_of-heads-in-Refused
 shape_of-heads-in-Refused c =
-    let at-loop = c.before.before.before.before in
-    at-loop.loop.inv.4
+    c.loop-number.invariant.4
 
 pub shape_of-links-in-Refused : goal.shape_of-links-in-Refused
 shape_of-links-in-Refused c =
-    let at-loop = c.before.before.before.before in
-    at-loop.loop.inv.5
+    c.loop-number.invariant.5
 
 pub shape_of-members-in-Refused : goal.shape_of-members-in-Refused
 shape_of-members-in-Refused c =
-    let at-loop = c.before.before.before.before in
-    at-loop.loop.inv.6
+    c.loop-number.invariant.6
 
 pub returns-in-Refused : goal.returns-in-Refused
 returns-in-Refused c =
-    let at-loop = c.before.before.before.before in record { from_value = building-refused _ _ _ _ _ _ _ _ _ at-loop.loop.inv.0 _ _
-          (sym c.next_clause.ensures ∙ c.in-Refused.is); begins = tt }
+    record {
+      from_value = building-refused _ _ _ _ _ _ _ _ _ c.loop-number.invariant.0 _ _
+          (sym c.next_clause.ensures ∙ c.in-Refused.is);
+      begins = tt;
+    }
 
 pub make-p-requires : goal.make-p-requires
 make-p-requires c =
-    let at-loop = c.before.before.before.before.before.before.before.before.before.before in
-    at-loop.loop.inv.0.built.good
+    c.loop-number.invariant.0.built.good
 
 pub shape_of-vars-then-p : goal.shape_of-vars-then-p
 shape_of-vars-then-p c =
-    let at-loop = c.before.before.before.before.before.before.before.before.before.before.before.before.before.before.before.before.before.before.before.before.before.before in
-    let after-make = c.before.before.before.before.before.before.before.before.before.before.before in
-    after-make.make.kept.0 ∙ at-loop.loop.inv.1
+    c.make-p.auto.vars ∙ c.loop-number.invariant.1
 
 pub shape_of-lows-then-p : goal.shape_of-lows-then-p
 shape_of-lows-then-p c =
-    let at-loop = c.before.before.before.before.before.before.before.before.before.before.before.before.before.before.before.before.before.before.before.before.before.before in
-    let after-make = c.before.before.before.before.before.before.before.before.before.before.before in
-    after-make.make.kept.1.0 ∙ at-loop.loop.inv.2
+    c.make-p.auto.lows ∙ c.loop-number.invariant.2
 
 pub shape_of-highs-then-p : goal.shape_of-highs-then-p
 shape_of-highs-then-p c =
-    let at-loop = c.before.before.before.before.before.before.before.before.before.before.before.before.before.before.before.before.before.before.before.before.before.before in
-    let after-make = c.before.before.before.before.before.before.before.before.before.before.before in
-    after-make.make.kept.1.1.0 ∙ at-loop.loop.inv.3
+    c.make-p.auto.highs ∙ c.loop-number.invariant.3
 
 pub shape_of-heads-then-p : goal.shape_of-heads-then-p
 shape_of-heads-then-p c =
-    let at-loop = c.before.before.before.before.before.before.before.before.before.before.before.before.before.before.before.before.before.before.before.before.before.before in
-    let after-make = c.before.before.before.before.before.before.before.before.before.before.before in
-    after-make.make.kept.1.1.1.0 ∙ at-loop.loop.inv.4
+    c.make-p.auto.heads ∙ c.loop-number.invariant.4
 
 pub shape_of-links-then-p : goal.shape_of-links-then-p
 shape_of-links-then-p c =
-    let at-loop = c.before.before.before.before.before.before.before.before.before.before.before.before.before.before.before.before.before.before.before.before.before.before in
-    let after-make = c.before.before.before.before.before.before.before.before.before.before.before in
-    after-make.make.kept.1.1.1.1.0 ∙ at-loop.loop.inv.5
+    c.make-p.auto.links ∙ c.loop-number.invariant.5
 
 pub shape_of-members-then-p : goal.shape_of-members-then-p
 shape_of-members-then-p c =
-    let at-loop = c.before.before.before.before.before.before.before.before.before.before.before.before.before.before.before.before.before.before.before.before.before.before in
-    at-loop.loop.inv.6
+    c.loop-number.invariant.6
 
 pub returns-then-p : goal.returns-then-p
 returns-then-p c =
-    let at-loop = c.before.before.before.before.before.before.before.before.before.before.before.before.before.before.before.before.before.before.before.before.before.before in
-    let after-next-clause = c.before.before.before.before.before.before.before.before.before.before.before.before.before.before.before.before.before.before.before.before.before in
-    let after-c = c.before.before.before.before.before.before.before.before.before.before.before.before.before.before.before.before.before.before.before in
-    let after-make = c.before.before.before.before.before.before.before.before.before.before.before in record { from_value = building-full _ _ _ _ _ _ _ _ _ at-loop.loop.inv.0 _ (sym after-next-clause.next-clause.ensures ∙ after-c.c.given.1)
-          (left after-make) after-make.make.ensures c.if-p.true; begins = tt }
+    let after-make = c.before.before.before.before.before.before.before.before.before.before.before.before in record {
+      from_value = building-full _ _ _ _ _ _ _ _ _ c.loop-number.invariant.0 _ (sym c.next_clause.ensures ∙ c.in-Closed.is)
+          (left after-make) c.make-p.ensures c.if-p.true;
+      begins = tt;
+    }
 
 pub offset_bounds-members-made : goal.offset_bounds-members-made
 offset_bounds-members-made c =
-    let at-loop = c.before.before.before.before.before.before.before.before.before.before.before.before.before.before.before.before.before.before.before.before.before.before.before in
-    omega (arith, at-loop.loop.inv.0.limit, at-loop.loop.inv.0.counted)
+    omega (arith, c.loop-number.invariant.0.limit, c.loop-number.invariant.0.counted)
 
 pub bounds-members-made : goal.bounds-members-made
 bounds-members-made c =
-    let at-loop = c.before.before.before.before.before.before.before.before.before.before.before.before.before.before.before.before.before.before.before.before.before.before.before in
-    let after-next-clause = c.before.before.before.before.before.before.before.before.before.before.before.before.before.before.before.before.before.before.before.before.before.before in
-    let after-c = c.before.before.before.before.before.before.before.before.before.before.before.before.before.before.before.before.before.before.before.before in
     omega (
       arith,
-      at-loop.loop.inv.0.limit,
-      at-loop.loop.inv.0.room,
-      building-more _ _ _ _ _ _ _ _ _ at-loop.loop.inv.0 _ (sym after-next-clause.next-clause.ensures ∙ after-c.c.given.1),
+      c.loop-number.invariant.0.limit,
+      c.loop-number.invariant.0.room,
+      building-more _ _ _ _ _ _ _ _ _ c.loop-number.invariant.0 _ (sym c.next_clause.ensures ∙ c.in-Closed.is),
     )
 
 pub overflow_add-made : goal.overflow_add-made
 overflow_add-made c =
-    let at-loop = c.before.before.before.before.before.before.before.before.before.before.before.before.before.before.before.before.before.before.before.before.before.before.before in
-    omega (arith, at-loop.loop.inv.0.limit, at-loop.loop.inv.0.counted)
+    omega (arith, c.loop-number.invariant.0.limit, c.loop-number.invariant.0.counted)
 
 pub loop-number-smaller : goal.loop-number-smaller
 loop-number-smaller c =
-    let at-loop = c.before.before.before.before.before.before.before.before.before.before.before.before.before.before.before.before.before.before.before.before.before.before.before in
-    let after-next-clause = c.before.before.before.before.before.before.before.before.before.before.before.before.before.before.before.before.before.before.before.before.before.before in
-    let after-c = c.before.before.before.before.before.before.before.before.before.before.before.before.before.before.before.before.before.before.before.before in
     omega (
       arith,
-      building-more _ _ _ _ _ _ _ _ _ at-loop.loop.inv.0 _
-          (sym after-next-clause.next-clause.ensures ∙ after-c.c.given.1),
+      building-more _ _ _ _ _ _ _ _ _ c.loop-number.invariant.0 _
+          (sym c.next_clause.ensures ∙ c.in-Closed.is),
     )
 
 pub loop-number-preserved : goal.loop-number-preserved
 loop-number-preserved c =
-    let at-loop = c.before.before.before.before.before.before.before.before.before.before.before.before.before.before.before.before.before.before.before.before.before.before.before in
-    let after-next-clause = c.before.before.before.before.before.before.before.before.before.before.before.before.before.before.before.before.before.before.before.before.before.before in
-    let after-c = c.before.before.before.before.before.before.before.before.before.before.before.before.before.before.before.before.before.before.before.before in
-    let after-make = c.before.before.before.before.before.before.before.before.before.before.before.before in (
-      building-next _ _ _ _ _ _ _ _ _ at-loop.loop.inv.0 _ (sym after-next-clause.next-clause.ensures ∙ after-c.c.given.1)
-          (left after-make) after-make.make.ensures c.if-p.false,
-      after-make.make.kept.0 ∙ at-loop.loop.inv.1,
-      after-make.make.kept.1.0 ∙ at-loop.loop.inv.2,
-      after-make.make.kept.1.1.0 ∙ at-loop.loop.inv.3,
-      after-make.make.kept.1.1.1.0 ∙ at-loop.loop.inv.4,
-      after-make.make.kept.1.1.1.1.0 ∙ at-loop.loop.inv.5,
-      length-set at-loop.loop.members at-loop.loop.made _ ∙ at-loop.loop.inv.6,
+    let after-make = c.before.before.before.before.before.before.before.before.before.before.before.before.before in (
+      building-next _ _ _ _ _ _ _ _ _ c.loop-number.invariant.0 _ (sym c.next_clause.ensures ∙ c.in-Closed.is)
+          (left after-make) c.make-p.ensures c.if-p.false,
+      c.make-p.auto.vars ∙ c.loop-number.invariant.1,
+      c.make-p.auto.lows ∙ c.loop-number.invariant.2,
+      c.make-p.auto.highs ∙ c.loop-number.invariant.3,
+      c.make-p.auto.heads ∙ c.loop-number.invariant.4,
+      c.make-p.auto.links ∙ c.loop-number.invariant.5,
+      length-set c.loop-number.members c.loop-number.made _ ∙ c.loop-number.invariant.6,
     )
