@@ -37,39 +37,33 @@ module _ (s : lts.Start tie.the-claims reads.Pre reads.Post) (ms ss : List ℕ) 
   room = omega (arith, s.requires.few, s.requires.room)
 
 -- the record is not refused
-module _ (c : lts.After-low tie.the-claims reads.Pre reads.Post) (ms ss : List ℕ) where
-  abbrev start : tie.Start
-  start = c.before.before.before.before.before.before.before.before.before
-
-  tested : NodeTested start.args.variables (state start ms ss) start.args.b (Fits c.in-Fits.low c.in-Fits.high)
+module _ (c : lts.Past-After-known_told2 tie.the-claims reads.Pre reads.Post) (ms ss : List ℕ) where
+  tested : NodeTested c.args.variables (state c.before.before.before.before.before.before.before.before ms ss) c.args.b (Fits c.in-Fits.low c.in-Fits.high)
   tested =
-      subst (NodeTested start.args.variables (state start ms ss) start.args.b) c.in-Fits.is
-      (c.node_test.ensures start.args.heads.now start.args.links.now ms ss)
+      subst (NodeTested c.args.variables (state c.before.before.before.before.before.before.before.before ms ss) c.args.b) c.in-Fits.is
+      (c.node_test.ensures c.args.heads.now c.args.links.now ms ss)
 
-  few : start.args.st.entries < 4096
-  few = few-there (lent start ms ss) start.args.st (room start ms ss)
-      (node-fits start.args.variables (state start ms ss) start.args.b tested.0).few
+  few : c.args.st.entries < 4096
+  few = few-there (lent c.before.before.before.before.before.before.before.before ms ss) c.args.st (room c.before.before.before.before.before.before.before.before ms ss)
+      (node-fits c.args.variables (state c.before.before.before.before.before.before.before.before ms ss) c.args.b tested.0).few
 
 -- what placing the node leaves
 module _ (c : lts.After-put tie.the-claims reads.Pre reads.Post) (ms ss : List ℕ) where
-  abbrev begun : tie.Start
-  begun = c.before.before.before.before.before.before.before.before.before.before.before.before.before.before.before.before
-
   abbrev outcome : Outcome
-  outcome = outcome_of c.put-p.new.vars c.put-p.new.lows.0 c.put-p.new.lows.1.0 c.put-p.new.lows.1.1.0
-      c.put-p.new.lows.1.1.1.0 c.put-p.result
+  outcome = outcome_of c.put-p.new.vars c.put-p.new.lows c.put-p.new.highs c.put-p.new.heads
+      c.put-p.new.links c.put-p.result
 
-  made : outcome ≡ written (size (before begun ms ss))
-      (put (size (before begun ms ss)) (nodes_of (before begun ms ss)) begun.args.b.variable
-      (entry_node (state begun ms ss) begun.args.b.low.0) (entry_node (state begun ms ss) begun.args.b.high.0))
+  made : outcome ≡ written (size (before c.before.before.before.before.before.before.before.before.before.before.before.before.before.before ms ss))
+      (put (size (before c.before.before.before.before.before.before.before.before.before.before.before.before.before.before ms ss)) (nodes_of (before c.before.before.before.before.before.before.before.before.before.before.before.before.before.before ms ss)) c.args.b.variable
+      (entry_node (state c.before.before.before.before.before.before.before.before.before.before.before.before.before.before ms ss) c.args.b.low.0) (entry_node (state c.before.before.before.before.before.before.before.before.before.before.before.before.before.before ms ss) c.args.b.high.0))
   made =
       c.put-p.ensures
-      ∙ ap₂ (λ (l h : ℕ). written (size (before begun ms ss))
-      (put (size (before begun ms ss)) (nodes_of (before begun ms ss)) begun.args.b.variable l h))
-      (tested c.before.before.before.before.before.before.before ms ss).1 (tested c.before.before.before.before.before.before.before ms ss).2
+      ∙ ap₂ (λ (l h : ℕ). written (size (before c.before.before.before.before.before.before.before.before.before.before.before.before.before.before ms ss))
+      (put (size (before c.before.before.before.before.before.before.before.before.before.before.before.before.before.before ms ss)) (nodes_of (before c.before.before.before.before.before.before.before.before.before.before.before.before.before.before ms ss)) c.args.b.variable l h))
+      (tested c.before.before.before.before.before.before ms ss).1 (tested c.before.before.before.before.before.before ms ss).2
 
 pub node_test-requires : goal.node_test-requires
-node_test-requires c = (good-readable (before c.before.before.before.before.before.before [] []) c.requires.good, c.requires.inside, c.requires.few, c.requires.room)
+node_test-requires c = (good-readable (before c.before.before.before.before.before.before.before [] []) c.requires.good, c.requires.inside, c.requires.few, c.requires.room)
 
 pub put-p-requires : goal.put-p-requires
 put-p-requires c = c.requires.good
@@ -78,23 +72,23 @@ pub shape_of-vars-then-p : goal.shape_of-vars-then-p
 shape_of-vars-then-p c = c.put-p.auto.vars
 
 pub shape_of-lows-then-p : goal.shape_of-lows-then-p
-shape_of-lows-then-p c = c.put-p.auto.lows.0
+shape_of-lows-then-p c = c.put-p.auto.lows
 
 pub shape_of-highs-then-p : goal.shape_of-highs-then-p
-shape_of-highs-then-p c = c.put-p.auto.lows.1.0
+shape_of-highs-then-p c = c.put-p.auto.highs
 
 pub shape_of-heads-then-p : goal.shape_of-heads-then-p
-shape_of-heads-then-p c = c.put-p.auto.lows.1.1.0
+shape_of-heads-then-p c = c.put-p.auto.heads
 
 pub shape_of-links-then-p : goal.shape_of-links-then-p
-shape_of-links-then-p c = c.put-p.auto.lows.1.1.1.0
+shape_of-links-then-p c = c.put-p.auto.links
 
 pub shape_of-scratch-then-p : goal.shape_of-scratch-then-p
 shape_of-scratch-then-p c = refl
 
 pub returns-then-p : goal.returns-then-p
-returns-then-p c = λ ms ss H. node-full _ (lent c.before.before.before.before.before.before.before.before.before.before.before.before.before.before.before.before.before.before.before.before.before.before.before.before.before.before.before.before ms ss) c.args.st c.args.b H
-    (tested c.before.before.before.before.before.before.before.before.before.before.before.before.before.before.before.before.before.before.before ms ss).0 (outcome c.before.before.before.before.before.before.before.before.before.before.before.before ms ss) (made c.before.before.before.before.before.before.before.before.before.before.before.before ms ss) _
+returns-then-p c = λ ms ss H. node-full _ (lent c.before.before.before.before.before.before.before.before.before.before.before.before.before.before.before.before.before.before.before.before.before.before.before.before.before.before.before ms ss) c.args.st c.args.b H
+    (tested c.before.before.before.before.before.before.before.before.before.before.before.before.before.before.before.before.before.before.before ms ss).0 (outcome c.before.before.before.before.before.before.before.before.before.before.before.before.before ms ss) (made c.before.before.before.before.before.before.before.before.before.before.before.before.before ms ss) _
     c.greater-peak.ensures c.if-p.true
 
 pub offset_bounds-scratch-entries : goal.offset_bounds-scratch-entries
@@ -120,32 +114,32 @@ shape_of-scratch-in-Refused c = refl
 
 pub returns-in-Refused : goal.returns-in-Refused
 returns-in-Refused c = λ ms ss H.
-    let told = subst (NodeTested c.args.variables (state c.before.before.before.before.before.before.before.before.before.before ms ss) c.args.b) c.in-Refused.is
+    let told = subst (NodeTested c.args.variables (state c.before.before.before.before.before.before.before.before.before ms ss) c.args.b) c.in-Refused.is
     (c.node_test.ensures c.args.heads.now c.args.links.now ms ss) in
-    node-refused _ (lent c.before.before.before.before.before.before.before.before.before.before ms ss) c.args.st c.args.b H _ told.0 told.1
+    node-refused _ (lent c.before.before.before.before.before.before.before.before.before ms ss) c.args.st c.args.b H _ told.0 told.1
 
 pub shape_of-vars-else-p : goal.shape_of-vars-else-p
 shape_of-vars-else-p c = c.put-p.auto.vars
 
 pub shape_of-lows-else-p : goal.shape_of-lows-else-p
-shape_of-lows-else-p c = c.put-p.auto.lows.0
+shape_of-lows-else-p c = c.put-p.auto.lows
 
 pub shape_of-highs-else-p : goal.shape_of-highs-else-p
-shape_of-highs-else-p c = c.put-p.auto.lows.1.0
+shape_of-highs-else-p c = c.put-p.auto.highs
 
 pub shape_of-heads : goal.shape_of-heads
-shape_of-heads c = c.put-p.auto.lows.1.1.0
+shape_of-heads c = c.put-p.auto.heads
 
 pub shape_of-links : goal.shape_of-links
-shape_of-links c = c.put-p.auto.lows.1.1.1.0
+shape_of-links c = c.put-p.auto.links
 
 pub shape_of-scratch-else-p : goal.shape_of-scratch-else-p
 shape_of-scratch-else-p c = length-set c.args.scratch.now c.args.st.entries
     c.put-p.result.node.0
 
 pub returns-else-p : goal.returns-else-p
-returns-else-p c = λ ms ss H. node_made _ (lent c.before.before.before.before.before.before.before.before.before.before.before.before.before.before.before.before.before.before.before.before.before.before.before.before.before.before.before.before.before.before ms ss) c.args.st c.args.b H
-    (tested c.before.before.before.before.before.before.before.before.before.before.before.before.before.before.before.before.before.before.before.before.before ms ss).0 (outcome c.before.before.before.before.before.before.before.before.before.before.before.before.before.before ms ss) (made c.before.before.before.before.before.before.before.before.before.before.before.before.before.before ms ss)
+returns-else-p c = λ ms ss H. node_made _ (lent c.before.before.before.before.before.before.before.before.before.before.before.before.before.before.before.before.before.before.before.before.before.before.before.before.before.before.before.before.before ms ss) c.args.st c.args.b H
+    (tested c.before.before.before.before.before.before.before.before.before.before.before.before.before.before.before.before.before.before.before.before.before ms ss).0 (outcome c.before.before.before.before.before.before.before.before.before.before.before.before.before.before.before ms ss) (made c.before.before.before.before.before.before.before.before.before.before.before.before.before.before.before ms ss)
     c.if-p.false c.with_entry.result
-    (c.with_entry.ensures ∙ ap (state_with_entry c.args.st (outcome c.before.before.before.before.before.before.before.before.before.before.before.before.before.before ms ss).table.count)
+    (c.with_entry.ensures ∙ ap (state_with_entry c.args.st (outcome c.before.before.before.before.before.before.before.before.before.before.before.before.before.before.before ms ss).table.count)
     c.greater-peak.ensures)

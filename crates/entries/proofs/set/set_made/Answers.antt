@@ -18,4 +18,4 @@ returns-in-Parity c = kind-made (before c.before.before.before.before.before.bef
 
 pub returns-in-AtLeast : goal.returns-in-AtLeast
 returns-in-AtLeast c = kind-made (before c.before.before.before.before.before.before.before.before.before.before.before.before.before.before.before.before.before.before.before.before.before.before.before) _ _ _ c.in-AtLeast.is _
-    c.at_least_lem.ensures
+    c.at_least.ensures

@@ -33,30 +33,27 @@ module _ (c : lts.Else1 tie.the-claims reads.Pre reads.Post) where
 
 -- what making its diagram leaves
 module _ (c : lts.After-set_made tie.the-claims reads.Pre reads.Post) where
-  abbrev begun : tie.Start
-  begun = c.before.before.before.before.before.before.before.before.before.before.before.before.before.before
-
   abbrev outcome : Outcome
-  outcome = let x = c.set_made-p.new in outcome_of x.0 x.1.0 x.1.1.0 x.1.1.1.0 x.1.1.1.1.0 c.set_made-p.result
+  outcome = outcome_of c.set_made-p.new.vars c.set_made-p.new.lows c.set_made-p.new.highs c.set_made-p.new.heads c.set_made-p.new.links c.set_made-p.result
 
-  made : outcome ≡ place_in (before begun) (set_diagram 64 begun.args.kind begun.args.b)
+  made : outcome ≡ place_in (before c.before.before.before.before.before.before.before.before.before.before.before.before.before.before) (set_diagram 64 c.args.kind c.args.b)
   made = c.set_made-p.ensures
 
-  grown : Grown (before begun) (set_diagram 64 begun.args.kind begun.args.b) outcome
-  grown = made-grown (before begun) begun.pre.good begun.args.kind begun.args.b outcome made
+  grown : Grown (before c.before.before.before.before.before.before.before.before.before.before.before.before.before.before) (set_diagram 64 c.args.kind c.args.b) outcome
+  grown = made-grown (before c.before.before.before.before.before.before.before.before.before.before.before.before.before.before) c.requires.good c.args.kind c.args.b outcome made
 
 pub returns-then-number-ne0 : goal.returns-then-number-ne0
 returns-then-number-ne0 c = λ ms ss H.
-    set-refused _ (lent c.before.before.before.before.before.before.before.before ms ss) c.args.st c.args.kind c.args.b H _
+    set-refused _ (lent c.before.before.before.before.before.before.before.before.before ms ss) c.args.st c.args.kind c.args.b H _
     c.set_test-number.ensures c.if-number-ne0.true
 
 pub drop_to-requires : goal.drop_to-requires
 drop_to-requires c =
-    ((grown c.before.before.before.before.before.before.before.before.before.before.before.before.before.before.before.before.before).good, (begun c.before.before.before.before.before.before.before.before.before.before.before.before.before.before.before.before.before).pre.good.least, (grown c.before.before.before.before.before.before.before.before.before.before.before.before.before.before.before.before.before).more)
+    let m = c.before.before.before.before.before.before.before.before.before.before.before.before.before.before.before.before.before.before in ((grown c.before.before.before.before.before.before.before.before.before.before.before.before.before.before.before.before.before.before).good, m.requires.good.least, (grown c.before.before.before.before.before.before.before.before.before.before.before.before.before.before.before.before.before.before).more)
 
 pub returns-then-p : goal.returns-then-p
 returns-then-p c = λ ms ss H.
-    set_full _ (lent c.before.before.before.before.before.before.before.before.before.before.before.before.before.before.before.before.before.before.before.before.before.before.before.before.before.before.before.before.before.before.before.before.before.before.before.before.before.before.before.before.before.before ms ss) c.args.st c.args.kind c.args.b H (none c.before.before.before.before.before.before.before.before.before.before.before.before.before.before.before.before.before.before.before.before.before.before.before.before.before.before.before.before.before.before.before.before.before.before) (outcome c.before.before.before.before.before.before.before.before.before.before.before.before.before.before.before.before.before.before.before.before.before.before.before.before.before.before.before.before) (made c.before.before.before.before.before.before.before.before.before.before.before.before.before.before.before.before.before.before.before.before.before.before.before.before.before.before.before.before) _
+    set_full _ (lent c.before.before.before.before.before.before.before.before.before.before.before.before.before.before.before.before.before.before.before.before.before.before.before.before.before.before.before.before.before.before.before.before.before.before.before.before.before.before.before.before.before.before.before ms ss) c.args.st c.args.kind c.args.b H (none c.before.before.before.before.before.before.before.before.before.before.before.before.before.before.before.before.before.before.before.before.before.before.before.before.before.before.before.before.before.before.before.before.before.before.before) (outcome c.before.before.before.before.before.before.before.before.before.before.before.before.before.before.before.before.before.before.before.before.before.before.before.before.before.before.before.before.before) (made c.before.before.before.before.before.before.before.before.before.before.before.before.before.before.before.before.before.before.before.before.before.before.before.before.before.before.before.before.before) _
     c.drop_to.ensures _
     c.greater-peak.ensures c.if-p.true
 
@@ -64,13 +61,13 @@ pub bounds-scratch-entries : goal.bounds-scratch-entries
 bounds-scratch-entries c =
     omega (
       arith,
-      (set-fits c.args.variables c.args.st.entries c.args.kind c.args.b (none c.before.before.before.before.before.before.before.before.before.before.before.before.before.before.before.before.before.before.before)
+      (set-fits c.args.variables c.args.st.entries c.args.kind c.args.b (none c.before.before.before.before.before.before.before.before.before.before.before.before.before.before.before.before.before.before.before.before)
           ).few,
       c.requires.room,
     )
 
 pub returns : goal.returns
 returns c = λ ms ss H.
-    set-made _ (lent c.before.before.before.before.before.before.before.before.before.before.before.before.before.before.before.before.before.before.before.before.before.before.before.before.before.before.before.before ms ss) c.args.st c.args.kind c.args.b H (none c.before.before.before.before.before.before.before.before.before.before.before.before.before.before.before.before.before.before.before.before) (outcome c.before.before.before.before.before.before.before.before.before.before.before.before.before.before) (made c.before.before.before.before.before.before.before.before.before.before.before.before.before.before)
+    set-made _ (lent c.before.before.before.before.before.before.before.before.before.before.before.before.before.before.before.before.before.before.before.before.before.before.before.before.before.before.before.before.before ms ss) c.args.st c.args.kind c.args.b H (none c.before.before.before.before.before.before.before.before.before.before.before.before.before.before.before.before.before.before.before.before.before) (outcome c.before.before.before.before.before.before.before.before.before.before.before.before.before.before.before) (made c.before.before.before.before.before.before.before.before.before.before.before.before.before.before.before)
     c.if-p.false c.with_entry.result
-    (c.with_entry.ensures ∙ ap (state_with_entry c.args.st (outcome c.before.before.before.before.before.before.before.before.before.before.before.before.before.before).table.count) c.greater-peak.ensures)
+    (c.with_entry.ensures ∙ ap (state_with_entry c.args.st (outcome c.before.before.before.before.before.before.before.before.before.before.before.before.before.before.before).table.count) c.greater-peak.ensures)
