@@ -11,85 +11,57 @@ use Rattle.operate.specs.declared.step.Next.{Next}
 use Rattle.operate.specs.declared.step.Next.TheVariants.{Told, One, Both}
 use Rattle.operate.specs.Inner.{operation_of, top, Given, NextSays}
 use Rattle.operate.proofs.Forced.{Forced, forced-none, forced-told, forced-one, forced-both, top_within}
-use Rattle.operate.proofs.step.forced_down.Reads as reads
-use Rattle.operate.proofs.step.forced_down.Lts as lts
-use Rattle.operate.proofs.step.forced_down.Tie as tie
 use Rattle.operate.proofs.step.forced_down.Goals as goal
 
--- where a step begins
-module _ (l : lts.At-loop tie.the-claims reads.Pre reads.Post goal.the-invariant-loop-k goal.the-decreases-loop-k) where
-  abbrev s : tie.Start invariant-loop decreases-loop
-  s = l.before.before.before.before
-
-  -- a table with the columns
-  abbrev t : List ℕ → List ℕ → ℕ → Table
-  t = table_of s.args.vars.now s.args.lows.now s.args.highs.now
-
-  abbrev T : Table
-  T = t s.pre.heads s.pre.links s.pre.count
-
-  abbrev op : Operation
-  op = operation_of s.args.kind s.args.by
-
-  abbrev shared : ℕ
-  shared = s.args.by.positive
-
-  abbrev first : ℕ
-  first = s.args.first.0
-
-  abbrev second : ℕ
-  second = s.args.second.0
-
-  abbrev f : ℕ
-  f = l.loop-k.f.0
-
-  abbrev g : ℕ
-  g = l.loop-k.g.0
-
-  come : Forced op shared T first second f g
-  come = l.loop-k.invariant s.pre.heads s.pre.links s.pre.count s.pre.given
-
 -- what the code's step says
-says : (c : lts.After-next_of tie.the-claims reads.Pre reads.Post goal.the-invariant-loop-k goal.the-decreases-loop-k) (r : Next) → c.next_of.result ≡ r → (heads links : List ℕ) (count : ℕ)
-    → let l = c.before in Forced (op c.before) (shared c.before) (t c.before heads links count) (first c.before) (second c.before) (f c.before) (g c.before)
-    → NextSays (op c.before) (shared c.before) (t c.before heads links count) (f c.before) (g c.before) r
-says c r e heads links count W =
-    let l = c.before in
-    subst (NextSays (op c.before) (shared c.before) (t c.before heads links count) (f c.before) (g c.before)) e (c.next_of.ensures heads links count W.given)
+says : (op : Operation) (shared : ℕ) (T : Table) (first second f g : ℕ) (x r : Next) → x ≡ r → (Given op shared T f g → NextSays op shared T f g x)
+    → Forced op shared T first second f g → NextSays op shared T f g r
+says op shared T first second f g x r e told W = subst (NextSays op shared T f g) e (told W.given)
 
 pub loop-k-init : goal.loop-k-init
 loop-k-init c = λ heads links count H. forced-none _ _ _ _ _ H
 
 pub next_of-requires : goal.next_of-requires
 next_of-requires c =
-    record { heads = (T c).heads; links = (T c).links; count = (T c).count; given = (come c).given }
+    let r = c.requires in
+    record { heads = r.heads; links = r.links; count = r.count; given = (c.loop-k.invariant r.heads r.links r.count r.given).given }
 
 pub returns-in-Told : goal.returns-in-Told
 returns-in-Told c =
-    let k = c.k-1.given in
+    let a = c.args in
+    let l = c.loop-k in
     λ heads links count H.
-    let W = c.loop-k.invariant heads links count H in
-    forced-told (op c.before.before.before.before) (shared c.before.before.before.before) (t c.before.before.before.before heads links count) (first c.before.before.before.before) (second c.before.before.before.before) (f c.before.before.before.before) (g c.before.before.before.before) H W k.0.0
-    (says c.before.before.before (Told k.0.0) k.1 heads links count W)
+    let W = l.invariant heads links count H in
+    let T : Table = table_of a.vars.now a.lows.now a.highs.now heads links count in
+    forced-told (operation_of a.kind a.by) a.by.positive T a.first.0 a.second.0 l.f.0 l.g.0 H W c.in-Told.k
+    (says _ _ T _ _ _ _ _ (Told c.in-Told.k) c.in-Told.is (c.next_of.ensures heads links count) W)
 
 pub loop-k-smaller : goal.loop-k-smaller
 loop-k-smaller c =
-    let a = c.a-1.given in
-    let h = says c.before.before.before (One a.0.0 a.0.1.0) a.1 (T c.before.before.before.before).heads (T c.before.before.before.before).links (T c.before.before.before.before).count (come c.before.before.before.before) in
-    omega (arith, h.1, top_within (s c.before.before.before.before).args.kind (s c.before.before.before.before).args.by (T c.before.before.before.before) a.0.0.0 a.0.1.0.0 h.0)
+    let a = c.args in
+    let l = c.loop-k in
+    let r = c.requires in
+    let W = l.invariant r.heads r.links r.count r.given in
+    let T : Table = table_of a.vars.now a.lows.now a.highs.now r.heads r.links r.count in
+    let h = says (operation_of a.kind a.by) a.by.positive T a.first.0 a.second.0 l.f.0 l.g.0 _ (One c.in-One.a c.in-One.b) c.in-One.is (c.next_of.ensures r.heads r.links r.count) W in
+    omega (arith, h.1, top_within a.kind a.by T c.in-One.a.0 c.in-One.b.0 h.0)
 
 pub loop-k-preserved : goal.loop-k-preserved
 loop-k-preserved c =
-    let a = c.a-1.given in
+    let a = c.args in
+    let l = c.loop-k in
     λ heads links count H.
-    let W = c.loop-k.invariant heads links count H in
-    forced-one (op c.before.before.before.before) (shared c.before.before.before.before) (t c.before.before.before.before heads links count) (first c.before.before.before.before) (second c.before.before.before.before) (f c.before.before.before.before) (g c.before.before.before.before) H W a.0.0 a.0.1.0
-    (says c.before.before.before (One a.0.0 a.0.1.0) a.1 heads links count W)
+    let W = l.invariant heads links count H in
+    let T : Table = table_of a.vars.now a.lows.now a.highs.now heads links count in
+    forced-one (operation_of a.kind a.by) a.by.positive T a.first.0 a.second.0 l.f.0 l.g.0 H W c.in-One.a c.in-One.b
+    (says _ _ T _ _ _ _ _ (One c.in-One.a c.in-One.b) c.in-One.is (c.next_of.ensures heads links count) W)
 
 pub returns-in-Both : goal.returns-in-Both
 returns-in-Both c =
-    let k = c.s-1.given in
+    let a = c.args in
+    let l = c.loop-k in
     λ heads links count H.
-    let W = c.loop-k.invariant heads links count H in
-    forced-both (op c.before.before.before.before) (shared c.before.before.before.before) (t c.before.before.before.before heads links count) (first c.before.before.before.before) (second c.before.before.before.before) (f c.before.before.before.before) (g c.before.before.before.before) H W k.0.0
-    (says c.before.before.before (Both k.0.0) k.1 heads links count W)
+    let W = l.invariant heads links count H in
+    let T : Table = table_of a.vars.now a.lows.now a.highs.now heads links count in
+    forced-both (operation_of a.kind a.by) a.by.positive T a.first.0 a.second.0 l.f.0 l.g.0 H W c.in-Both.s
+    (says _ _ T _ _ _ _ _ (Both c.in-Both.s) c.in-Both.is (c.next_of.ensures heads links count) W)

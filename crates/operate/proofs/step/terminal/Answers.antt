@@ -18,8 +18,7 @@ returns-then-f-eq1 c =
 pub returns-then-f-lt2 : goal.returns-then-f-lt2
 unfolding terminal_of
 returns-then-f-lt2 c =
-    ⊎_elim (λ w. rw (c.in-Cofactor.is, lt-ltb _ _ w.taken))
-    (λ w. rw (c.in-Cofactor.is, le-ltb _ _ w.0.left, w.2.taken)) c.then-f-lt2.branch
+    ⊎_elim (λ h. rw (c.in-Cofactor.is, lt-ltb c.args.f.0 2 h)) (λ h. rw (c.in-Cofactor.is, le-ltb c.args.f.0 2 h.0, eq-eqb c.args.g.0 1 h.1)) c.then-f-lt2.either
 
 pub returns-then-f-g : goal.returns-then-f-g
 unfolding terminal_of
@@ -27,7 +26,7 @@ returns-then-f-g c =
     rw (
       c.in-Cofactor.is,
       le-ltb _ _ c.if-f-lt2.false,
-      c.if-g-eq1.false-raw,
+      ne_eqb _ _ c.if-g-eq1.false,
       eq-eqb _ _ c.if-f-g.true,
     )
 
@@ -52,7 +51,7 @@ returns-else-f-g c =
     rw (
       c.in-Cofactor.is,
       le-ltb _ _ c.if-f-lt2.false,
-      c.if-g-eq1.false-raw,
+      ne_eqb _ _ c.if-g-eq1.false,
       ne_eqb _ _ c.if-f-g.false,
     )
 

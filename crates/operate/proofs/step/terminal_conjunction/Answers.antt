@@ -7,39 +7,39 @@ use Rattle.operate.proofs.step.terminal_conjunction.Goals as goal
 pub returns-then-f-eq0 : goal.returns-then-f-eq0
 unfolding terminal_of
 returns-then-f-eq0 c =
-    ⊎_elim (λ w. rw (eq-eqb _ _ w.taken)) (λ w. rw (ne_eqb _ _ w.0.left, w.2.taken)) c.then-f-eq0.branch
+    ⊎_elim (λ h. rw (eq-eqb c.args.f.0 0 h)) (λ h. rw (ne_eqb c.args.f.0 0 h.0, eq-eqb c.args.g.0 0 h.1)) c.then-f-eq0.either
 
 pub returns-then-f-eq1 : goal.returns-then-f-eq1
 unfolding terminal_of
 returns-then-f-eq1 c =
-    rw (ne_eqb _ _ c.if-f-eq0.false, c.if-g-eq0.false-raw, eq-eqb _ _ c.if-f-eq1.true)
+    rw (ne_eqb _ _ c.if-f-eq0.false, ne_eqb _ _ c.if-g-eq0.false, eq-eqb _ _ c.if-f-eq1.true)
 
 pub returns-then-g-eq1 : goal.returns-then-g-eq1
 unfolding terminal_of
 returns-then-g-eq1 c =
     ⊎_elim
-    (λ w. rw (
+    (λ h. rw (
       ne_eqb _ _ c.if-f-eq0.false,
-      c.if-g-eq0.false-raw,
+      ne_eqb _ _ c.if-g-eq0.false,
       ne_eqb _ _ c.if-f-eq1.false,
-      eq-eqb _ _ w.taken,
+      eq-eqb c.args.g.0 1 h,
     ))
-    (λ w. rw (
+    (λ h. rw (
       ne_eqb _ _ c.if-f-eq0.false,
-      c.if-g-eq0.false-raw,
+      ne_eqb _ _ c.if-g-eq0.false,
       ne_eqb _ _ c.if-f-eq1.false,
-      ne_eqb _ _ w.0.left,
-      w.3.taken,
+      ne_eqb c.args.g.0 1 h.0,
+      eq-eqb c.args.f.0 c.args.g.0 h.1,
     ))
-    c.then-g-eq1.branch
+    c.then-g-eq1.either
 
 pub returns : goal.returns
 unfolding terminal_of
 returns c =
     rw (
       ne_eqb _ _ c.if-f-eq0.false,
-      c.if-g-eq0.false-raw,
+      ne_eqb _ _ c.if-g-eq0.false,
       ne_eqb _ _ c.if-f-eq1.false,
       ne_eqb _ _ c.if-g-eq1.false,
-      c.if-f-g.false-raw,
+      ne_eqb _ _ c.if-f-g.false,
     )
