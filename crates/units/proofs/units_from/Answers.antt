@@ -27,4 +27,4 @@ strike-requires c =
 
 pub returns : goal.returns
 returns c =
-    record { fact = struck-all 64 _ _ c.strike.result c.strike.ensures.struck; marks_below = c.strike.ensures.marked.1 }
+    record { fact = struck-all 64 _ _ c.strike.result c.strike.ensures.struck; marks_below = c.strike.ensures.marks_below }
