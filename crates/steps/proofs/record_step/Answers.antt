@@ -22,7 +22,7 @@ pub witness_step-requires : goal.witness_step-requires
 witness_step-requires c = c.requires.0.entries.narrow
 
 pub line_step-requires : goal.line_step-requires
-line_step-requires c = (held-64 c.args.variables (lent c.before.before.before.before.before.before.before.before.before.before.before.before.before.before.before.before.before.before.before.before.before.before) c.args.st c.requires.0, c.requires.1, c.requires.2)
+line_step-requires c = (held-64 c.args.variables (lent c.before.before.before.before.before.before.before.before.before.before.before.before.before.before.before.before.before.before.before.before) c.args.st c.requires.0, c.requires.1, c.requires.2)
 
 pub strike_step-requires : goal.strike_step-requires
 strike_step-requires c = omega
@@ -35,98 +35,116 @@ pub shape_of-vars-in-NodeEntry : goal.shape_of-vars-in-NodeEntry
 shape_of-vars-in-NodeEntry c = c.node_step.auto.vars
 
 pub shape_of-lows-in-NodeEntry : goal.shape_of-lows-in-NodeEntry
-shape_of-lows-in-NodeEntry c = c.node_step.auto.lows.0
+shape_of-lows-in-NodeEntry c = c.node_step.auto.lows
 
 pub shape_of-highs-in-NodeEntry : goal.shape_of-highs-in-NodeEntry
-shape_of-highs-in-NodeEntry c = c.node_step.auto.lows.1.0
+shape_of-highs-in-NodeEntry c = c.node_step.auto.highs
 
 pub shape_of-heads-in-NodeEntry : goal.shape_of-heads-in-NodeEntry
-shape_of-heads-in-NodeEntry c = c.node_step.auto.lows.1.1.0
+shape_of-heads-in-NodeEntry c = c.node_step.auto.heads
 
 pub shape_of-links-in-NodeEntry : goal.shape_of-links-in-NodeEntry
-shape_of-links-in-NodeEntry c = c.node_step.auto.lows.1.1.1.0
+shape_of-links-in-NodeEntry c = c.node_step.auto.links
 
 pub shape_of-scratch-in-NodeEntry : goal.shape_of-scratch-in-NodeEntry
-shape_of-scratch-in-NodeEntry c = c.node_step.auto.lows.1.1.1.1.0
+shape_of-scratch-in-NodeEntry c = c.node_step.auto.scratch
 
 pub returns-in-NodeEntry : goal.returns-in-NodeEntry
-returns-in-NodeEntry c = record { fact = as-node _ _ _ _ _ _ _ _ _ c.in-NodeEntry.is
-      (c.node_step.ensures c.args.members.now c.args.struck.now c.requires.0); marks_after = c.requires.1 }
+returns-in-NodeEntry c = record {
+  fact = as-node _ _ _ _ _ _ _ _ _ c.in-NodeEntry.is
+      (c.node_step.ensures c.args.members.now c.args.struck.now c.requires.0);
+  marks_after = c.requires.1;
+}
 
 pub returns-in-Witness : goal.returns-in-Witness
-returns-in-Witness c = record { fact = as-witness _ _ _ _ _ _ _ _ _ _ c.in-Witness.is
-      (c.witness_step.ensures (lent c.before.before.before.before.before.before.before.before.before.before.before.before.before.before) c.requires.0); marks_after = c.requires.1 }
+returns-in-Witness c = record {
+  fact = as-witness _ _ _ _ _ _ _ _ _ _ c.in-Witness.is
+      (c.witness_step.ensures (lent c.before.before.before.before.before.before.before.before.before.before.before.before.before) c.requires.0);
+  marks_after = c.requires.1;
+}
 
 pub shape_of-vars-in-ProofLine : goal.shape_of-vars-in-ProofLine
 shape_of-vars-in-ProofLine c = c.line_step.auto.vars
 
 pub shape_of-lows-in-ProofLine : goal.shape_of-lows-in-ProofLine
-shape_of-lows-in-ProofLine c = c.line_step.auto.lows.0
+shape_of-lows-in-ProofLine c = c.line_step.auto.lows
 
 pub shape_of-highs-in-ProofLine : goal.shape_of-highs-in-ProofLine
-shape_of-highs-in-ProofLine c = c.line_step.auto.lows.1.0
+shape_of-highs-in-ProofLine c = c.line_step.auto.highs
 
 pub shape_of-heads-in-ProofLine : goal.shape_of-heads-in-ProofLine
-shape_of-heads-in-ProofLine c = c.line_step.auto.lows.1.1.0
+shape_of-heads-in-ProofLine c = c.line_step.auto.heads
 
 pub shape_of-links-in-ProofLine : goal.shape_of-links-in-ProofLine
-shape_of-links-in-ProofLine c = c.line_step.auto.lows.1.1.1.0
+shape_of-links-in-ProofLine c = c.line_step.auto.links
 
 pub shape_of-memo : goal.shape_of-memo
-shape_of-memo c = c.line_step.auto.lows.1.1.1.1.0
+shape_of-memo c = c.line_step.auto.memo
 
 pub shape_of-marks : goal.shape_of-marks
-shape_of-marks c = c.line_step.auto.lows.1.1.1.1.1.0
+shape_of-marks c = c.line_step.auto.marks
 
 pub shape_of-members : goal.shape_of-members
-shape_of-members c = c.line_step.auto.lows.1.1.1.1.1.1.0
+shape_of-members c = c.line_step.auto.members
 
 pub shape_of-scratch-in-ProofLine : goal.shape_of-scratch-in-ProofLine
-shape_of-scratch-in-ProofLine c = c.line_step.auto.lows.1.1.1.1.1.1.1.0
+shape_of-scratch-in-ProofLine c = c.line_step.auto.scratch
 
 pub shape_of-struck-in-ProofLine : goal.shape_of-struck-in-ProofLine
 shape_of-struck-in-ProofLine c = refl
 
 pub returns-in-ProofLine : goal.returns-in-ProofLine
-returns-in-ProofLine c = record { fact = as_line _ _ _ _ _ _ _ _ _ _ c.in-ProofLine.is
-      (c.line_step.ensures.stepped c.args.variables c.requires.0); marks_after = c.line_step.ensures.marks_after }
+returns-in-ProofLine c = record {
+  fact = as_line _ _ _ _ _ _ _ _ _ _ c.in-ProofLine.is
+      (c.line_step.ensures.stepped c.args.variables c.requires.0);
+  marks_after = c.line_step.ensures.marks_after;
+}
 
 pub shape_of-struck-in-Strike : goal.shape_of-struck-in-Strike
 shape_of-struck-in-Strike c = c.strike_step.auto.struck
 
 pub returns-in-Strike : goal.returns-in-Strike
 returns-in-Strike c =
-    record { fact = as-strike _ _ _ _ _ _ _ _ _ c.in-Strike.is
+    record {
+      fact = as-strike _ _ _ _ _ _ _ _ _ c.in-Strike.is
           (c.strike_step.ensures c.args.variables c.args.vars.now c.args.lows.now
           c.args.highs.now c.args.heads.now c.args.links.now c.args.members.now c.args.scratch.now
-          c.requires.0); marks_after = c.requires.1 }
+          c.requires.0);
+      marks_after = c.requires.1;
+    }
 
 pub shape_of-vars-in-SetEntry : goal.shape_of-vars-in-SetEntry
 shape_of-vars-in-SetEntry c = c.set_step.auto.vars
 
 pub shape_of-lows-in-SetEntry : goal.shape_of-lows-in-SetEntry
-shape_of-lows-in-SetEntry c = c.set_step.auto.lows.0
+shape_of-lows-in-SetEntry c = c.set_step.auto.lows
 
 pub shape_of-highs-in-SetEntry : goal.shape_of-highs-in-SetEntry
-shape_of-highs-in-SetEntry c = c.set_step.auto.lows.1.0
+shape_of-highs-in-SetEntry c = c.set_step.auto.highs
 
 pub shape_of-heads-in-SetEntry : goal.shape_of-heads-in-SetEntry
-shape_of-heads-in-SetEntry c = c.set_step.auto.lows.1.1.0
+shape_of-heads-in-SetEntry c = c.set_step.auto.heads
 
 pub shape_of-links-in-SetEntry : goal.shape_of-links-in-SetEntry
-shape_of-links-in-SetEntry c = c.set_step.auto.lows.1.1.1.0
+shape_of-links-in-SetEntry c = c.set_step.auto.links
 
 pub shape_of-scratch-in-SetEntry : goal.shape_of-scratch-in-SetEntry
-shape_of-scratch-in-SetEntry c = c.set_step.auto.lows.1.1.1.1.0
+shape_of-scratch-in-SetEntry c = c.set_step.auto.scratch
 
 pub returns-in-SetEntry : goal.returns-in-SetEntry
 returns-in-SetEntry c =
-    record { fact = as-set _ _ _ _ _ _ _ _ _ _ c.in-SetEntry.is
-          (c.set_step.ensures c.args.members.now c.args.struck.now c.requires.0); marks_after = c.requires.1 }
+    record {
+      fact = as-set _ _ _ _ _ _ _ _ _ _ c.in-SetEntry.is
+          (c.set_step.ensures c.args.members.now c.args.struck.now c.requires.0);
+      marks_after = c.requires.1;
+    }
 
 pub returns-in-End : goal.returns-in-End
-returns-in-End c = record { fact = as-end _ _ _ _ _ _ _ _ c.in-End.is
-      (c.end_step.ensures c.args.variables (lent c.before.before.before.before.before.before.before.before.before.before.before.before.before)); marks_after = c.requires.1 }
+returns-in-End c = record {
+  fact = as-end _ _ _ _ _ _ _ _ c.in-End.is
+      (c.end_step.ensures c.args.variables (lent c.before.before.before.before.before.before.before.before.before.before.before.before.before));
+  marks_after = c.requires.1;
+}
 
 pub returns-in-CutShort : goal.returns-in-CutShort
 returns-in-CutShort c = record { fact = cut_short _ _ _ _ _ _ c.in-CutShort.is; marks_after = c.requires.1 }

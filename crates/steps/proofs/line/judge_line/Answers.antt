@@ -94,14 +94,17 @@ slice_bounds-path-end-in-Path-3 c =
 
 pub path-requires : goal.path-requires
 path-requires c =
-    record { fact = (
+    record {
+      fact = (
         c.requires.0,
         c.requires.1,
         scratch-length c.before.before.before.before.before.before.before.before.before.before.before.before.before.before.before.before.before.before.before.before.before,
         c.requires.2,
         subst (λ (x : Rule). FewPaths x (diagram_at (nodes_of (before c.before.before.before.before.before.before.before.before.before.before.before.before.before.before.before.before.before.before.before.before.before)) c.args.g.0))
             c.in-Path.is c.requires.4,
-      ); memberwords_len = (own-length c.before.before.before.before.before.before.before.before.before.before.before.before.before.before.before.before.before.before.before.before.before, own-length c.before.before.before.before.before.before.before.before.before.before.before.before.before.before.before.before.before.before.before.before.before) }
+      );
+      memberwords_len = (own-length c.before.before.before.before.before.before.before.before.before.before.before.before.before.before.before.before.before.before.before.before.before, own-length c.before.before.before.before.before.before.before.before.before.before.before.before.before.before.before.before.before.before.before.before.before);
+    }
 
 pub shape_of-vars-in-Rup : goal.shape_of-vars-in-Rup
 shape_of-vars-in-Rup c =
@@ -109,39 +112,42 @@ shape_of-vars-in-Rup c =
 
 pub shape_of-lows-in-Rup : goal.shape_of-lows-in-Rup
 shape_of-lows-in-Rup c =
-    c.rup.auto.lows.0
+    c.rup.auto.lows
 
 pub shape_of-highs-in-Rup : goal.shape_of-highs-in-Rup
 shape_of-highs-in-Rup c =
-    c.rup.auto.lows.1.0
+    c.rup.auto.highs
 
 pub shape_of-heads-in-Rup : goal.shape_of-heads-in-Rup
 shape_of-heads-in-Rup c =
-    c.rup.auto.lows.1.1.0
+    c.rup.auto.heads
 
 pub shape_of-links-in-Rup : goal.shape_of-links-in-Rup
 shape_of-links-in-Rup c =
-    c.rup.auto.lows.1.1.1.0
+    c.rup.auto.links
 
 pub shape_of-memo-in-Rup : goal.shape_of-memo-in-Rup
 shape_of-memo-in-Rup c =
-    c.rup.auto.lows.1.1.1.1.0
+    c.rup.auto.memo
 
 pub shape_of-marks-in-Rup : goal.shape_of-marks-in-Rup
 shape_of-marks-in-Rup c =
-    c.rup.auto.lows.1.1.1.1.1.0
+    c.rup.auto.marks
 
 pub shape_of-scratch-in-Rup : goal.shape_of-scratch-in-Rup
 shape_of-scratch-in-Rup c =
-    length_front c.args.scratch.now c.rup.new.lows.1.1.1.1.1.1.1.1.0
-    (m c.before.before.before.before.before.before.before.before.before.before.before.before.before.before.before.before.before.before.before.before.before.before.before.before.before.before.before.before.before.before.before.before.before.before.before.before.before.before.before.before) c.rup.auto.lows.1.1.1.1.1.1.1.1.0
+    length_front c.args.scratch.now c.rup.new.list
+    (m c.before.before.before.before.before.before.before.before.before.before.before.before.before.before.before.before.before.before.before.before.before.before.before.before.before.before.before.before.before.before.before.before.before.before.before.before.before.before.before.before) c.rup.auto.list
 
 pub returns-in-Rup : goal.returns-in-Rup
 returns-in-Rup c =
-    let r = c.rup in record { fact = subst (λ (x : Rule). LineSays (before c.before.before.before.before.before.before.before.before.before.before.before.before.before.before.before.before.before.before.before.before.before.before.before.before.before.before.before.before.before.before.before.before.before.before.before.before.before.before.before.before) (said c.before.before.before.before.before.before.before.before.before.before.before.before.before.before.before.before.before.before.before.before.before.before.before.before.before.before.before.before.before.before.before.before.before.before.before.before.before.before.before.before x) most_rounds r.result
-          (table_of r.last.0 r.last.1.0 r.last.1.1.0 r.last.1.1.1.0 r.last.1.1.1.1.0 r.result.count))
+    record {
+      fact = subst (λ (x : Rule). LineSays (before c.before.before.before.before.before.before.before.before.before.before.before.before.before.before.before.before.before.before.before.before.before.before.before.before.before.before.before.before.before.before.before.before.before.before.before.before.before.before.before.before) (said c.before.before.before.before.before.before.before.before.before.before.before.before.before.before.before.before.before.before.before.before.before.before.before.before.before.before.before.before.before.before.before.before.before.before.before.before.before.before.before.before x) most_rounds c.rup.result
+          (table_of c.rup.new.vars c.rup.new.lows c.rup.new.highs c.rup.new.heads c.rup.new.links c.rup.result.count))
           (sym c.in-Rup.is)
-          (says-most (before c.before.before.before.before.before.before.before.before.before.before.before.before.before.before.before.before.before.before.before.before.before.before.before.before.before.before.before.before.before.before.before.before.before.before.before.before.before.before.before.before) _ _ most_rounds r.result _ (omega arith) r.ensures.0); marks_after = r.ensures.1 }
+          (says-most (before c.before.before.before.before.before.before.before.before.before.before.before.before.before.before.before.before.before.before.before.before.before.before.before.before.before.before.before.before.before.before.before.before.before.before.before.before.before.before.before.before) _ _ most_rounds c.rup.result _ (omega arith) c.rup.ensures.fact_2);
+      marks_after = c.rup.ensures.marks_after;
+    }
 
 pub shape_of-vars-in-Pr : goal.shape_of-vars-in-Pr
 shape_of-vars-in-Pr c =
@@ -149,39 +155,42 @@ shape_of-vars-in-Pr c =
 
 pub shape_of-lows-in-Pr : goal.shape_of-lows-in-Pr
 shape_of-lows-in-Pr c =
-    c.pr.auto.lows.0
+    c.pr.auto.lows
 
 pub shape_of-highs-in-Pr : goal.shape_of-highs-in-Pr
 shape_of-highs-in-Pr c =
-    c.pr.auto.lows.1.0
+    c.pr.auto.highs
 
 pub shape_of-heads-in-Pr : goal.shape_of-heads-in-Pr
 shape_of-heads-in-Pr c =
-    c.pr.auto.lows.1.1.0
+    c.pr.auto.heads
 
 pub shape_of-links-in-Pr : goal.shape_of-links-in-Pr
 shape_of-links-in-Pr c =
-    c.pr.auto.lows.1.1.1.0
+    c.pr.auto.links
 
 pub shape_of-memo-in-Pr : goal.shape_of-memo-in-Pr
 shape_of-memo-in-Pr c =
-    c.pr.auto.lows.1.1.1.1.0
+    c.pr.auto.memo
 
 pub shape_of-marks-in-Pr : goal.shape_of-marks-in-Pr
 shape_of-marks-in-Pr c =
-    c.pr.auto.lows.1.1.1.1.1.0
+    c.pr.auto.marks
 
 pub shape_of-scratch-in-Pr : goal.shape_of-scratch-in-Pr
 shape_of-scratch-in-Pr c =
-    length_front c.args.scratch.now c.pr.new.lows.1.1.1.1.1.1.1.1.0
-    (m c.before.before.before.before.before.before.before.before.before.before.before.before.before.before.before.before.before.before.before.before.before.before.before.before.before.before.before.before.before.before.before.before.before.before.before.before.before.before.before.before.before.before.before.before.before) c.pr.auto.lows.1.1.1.1.1.1.1.1.0
+    length_front c.args.scratch.now c.pr.new.first
+    (m c.before.before.before.before.before.before.before.before.before.before.before.before.before.before.before.before.before.before.before.before.before.before.before.before.before.before.before.before.before.before.before.before.before.before.before.before.before.before.before.before.before.before.before.before.before) c.pr.auto.first
 
 pub returns-in-Pr : goal.returns-in-Pr
 returns-in-Pr c =
-    let r = c.pr in record { fact = subst (λ (x : Rule). LineSays (before c.before.before.before.before.before.before.before.before.before.before.before.before.before.before.before.before.before.before.before.before.before.before.before.before.before.before.before.before.before.before.before.before.before.before.before.before.before.before.before.before.before.before.before.before.before) (said c.before.before.before.before.before.before.before.before.before.before.before.before.before.before.before.before.before.before.before.before.before.before.before.before.before.before.before.before.before.before.before.before.before.before.before.before.before.before.before.before.before.before.before.before.before x) most_rounds r.result
-          (table_of r.last.0 r.last.1.0 r.last.1.1.0 r.last.1.1.1.0 r.last.1.1.1.1.0 r.result.count))
+    record {
+      fact = subst (λ (x : Rule). LineSays (before c.before.before.before.before.before.before.before.before.before.before.before.before.before.before.before.before.before.before.before.before.before.before.before.before.before.before.before.before.before.before.before.before.before.before.before.before.before.before.before.before.before.before.before.before.before) (said c.before.before.before.before.before.before.before.before.before.before.before.before.before.before.before.before.before.before.before.before.before.before.before.before.before.before.before.before.before.before.before.before.before.before.before.before.before.before.before.before.before.before.before.before.before x) most_rounds c.pr.result
+          (table_of c.pr.new.vars c.pr.new.lows c.pr.new.highs c.pr.new.heads c.pr.new.links c.pr.result.count))
           (sym c.in-Pr.is)
-          (says-most (before c.before.before.before.before.before.before.before.before.before.before.before.before.before.before.before.before.before.before.before.before.before.before.before.before.before.before.before.before.before.before.before.before.before.before.before.before.before.before.before.before.before.before.before.before.before) _ _ most_rounds r.result _ (omega (arith, c.requires.2)) r.ensures.0); marks_after = r.ensures.1 }
+          (says-most (before c.before.before.before.before.before.before.before.before.before.before.before.before.before.before.before.before.before.before.before.before.before.before.before.before.before.before.before.before.before.before.before.before.before.before.before.before.before.before.before.before.before.before.before.before.before) _ _ most_rounds c.pr.result _ (omega (arith, c.requires.2)) c.pr.ensures.fact_2);
+      marks_after = c.pr.ensures.marks_after;
+    }
 
 pub shape_of-vars-in-Path : goal.shape_of-vars-in-Path
 shape_of-vars-in-Path c =
@@ -189,36 +198,39 @@ shape_of-vars-in-Path c =
 
 pub shape_of-lows-in-Path : goal.shape_of-lows-in-Path
 shape_of-lows-in-Path c =
-    c.path.auto.lows.0
+    c.path.auto.lows
 
 pub shape_of-highs-in-Path : goal.shape_of-highs-in-Path
 shape_of-highs-in-Path c =
-    c.path.auto.lows.1.0
+    c.path.auto.highs
 
 pub shape_of-heads-in-Path : goal.shape_of-heads-in-Path
 shape_of-heads-in-Path c =
-    c.path.auto.lows.1.1.0
+    c.path.auto.heads
 
 pub shape_of-links-in-Path : goal.shape_of-links-in-Path
 shape_of-links-in-Path c =
-    c.path.auto.lows.1.1.1.0
+    c.path.auto.links
 
 pub shape_of-memo-in-Path : goal.shape_of-memo-in-Path
 shape_of-memo-in-Path c =
-    c.path.auto.lows.1.1.1.1.0
+    c.path.auto.memo
 
 pub shape_of-marks-in-Path : goal.shape_of-marks-in-Path
 shape_of-marks-in-Path c =
-    c.path.auto.lows.1.1.1.1.1.0
+    c.path.auto.marks
 
 pub shape_of-scratch-in-Path : goal.shape_of-scratch-in-Path
 shape_of-scratch-in-Path c =
-    length_front c.args.scratch.now c.path.new.lows.1.1.1.1.1.1.1.1.0
-    (m c.before.before.before.before.before.before.before.before.before.before.before.before.before.before.before.before.before.before.before.before.before.before.before.before.before.before.before.before.before.before.before.before.before.before.before.before.before.before.before.before) c.path.auto.lows.1.1.1.1.1.1.1.1.0
+    length_front c.args.scratch.now c.path.new.list
+    (m c.before.before.before.before.before.before.before.before.before.before.before.before.before.before.before.before.before.before.before.before.before.before.before.before.before.before.before.before.before.before.before.before.before.before.before.before.before.before.before.before) c.path.auto.list
 
 pub returns-in-Path : goal.returns-in-Path
 returns-in-Path c =
-    let r = c.path in record { fact = subst (λ (x : Rule). LineSays (before c.before.before.before.before.before.before.before.before.before.before.before.before.before.before.before.before.before.before.before.before.before.before.before.before.before.before.before.before.before.before.before.before.before.before.before.before.before.before.before.before) (said c.before.before.before.before.before.before.before.before.before.before.before.before.before.before.before.before.before.before.before.before.before.before.before.before.before.before.before.before.before.before.before.before.before.before.before.before.before.before.before.before x) most_rounds r.result
-          (table_of r.last.0 r.last.1.0 r.last.1.1.0 r.last.1.1.1.0 r.last.1.1.1.1.0 r.result.count))
+    record {
+      fact = subst (λ (x : Rule). LineSays (before c.before.before.before.before.before.before.before.before.before.before.before.before.before.before.before.before.before.before.before.before.before.before.before.before.before.before.before.before.before.before.before.before.before.before.before.before.before.before.before.before) (said c.before.before.before.before.before.before.before.before.before.before.before.before.before.before.before.before.before.before.before.before.before.before.before.before.before.before.before.before.before.before.before.before.before.before.before.before.before.before.before.before x) most_rounds c.path.result
+          (table_of c.path.new.vars c.path.new.lows c.path.new.highs c.path.new.heads c.path.new.links c.path.result.count))
           (sym c.in-Path.is)
-          r.ensures.0; marks_after = r.ensures.1 }
+          c.path.ensures.fact_2;
+      marks_after = c.path.ensures.marks_after;
+    }

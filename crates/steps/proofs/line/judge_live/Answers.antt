@@ -46,68 +46,66 @@ module _ (s : lts.Start tie.the-claims reads.Pre reads.Post tie.handed_clauses) 
   }
 
 module _ (c : lts.After-live_members tie.the-claims reads.Pre reads.Post tie.handed_clauses) where
-  abbrev begun : tie.Start
-  begun = c.before.before.before.before.before.before.before.before.before.before.before.before
-
   abbrev gathered : List ℕ
-  gathered = take c.live_members-m.result c.live_members-m.new.1.1.1.0
+  gathered = take c.live_members-m.result c.live_members-m.new.live
 
   few : c.live_members-m.result ≤ 2048
-  few = omega (arith, c.live_members-m.ensures.0, begun.pre.2)
+  few = omega (arith, c.live_members-m.ensures.0, c.requires.2)
 
-  gathered-is : gathered ≡ live begun
+  gathered-is : gathered ≡ live c.before.before.before.before.before.before.before.before.before.before.before.before
   gathered-is = c.live_members-m.ensures.1
 
   gathered-length : length gathered ≡ c.live_members-m.result
-  gathered-length = length-take-le c.live_members-m.result c.live_members-m.new.1.1.1.0
-      (omega (arith, few, c.live_members-m.auto.1.1.1.0))
+  gathered-length = length-take-le c.live_members-m.result c.live_members-m.new.live
+      (omega (arith, few, c.live_members-m.auto.live))
 
 pub live_members-m-requires : goal.live_members-m-requires
 live_members-m-requires c = (omega (arith, c.requires.2, c.requires.3), omega (arith, c.requires.2, c.requires.3, c.requires.5), omega (arith, c.requires.2))
 
 pub slice_bounds-live-end : goal.slice_bounds-live-end
-slice_bounds-live-end c = omega (arith, few c.before.before.before.before.before.before.before.before, c.live_members-m.kept.1.1.1.0)
+slice_bounds-live-end c = omega (arith, few c.before.before.before.before.before.before.before.before.before, c.live_members-m.auto.live)
 
 pub slice_bounds-judge_line-end : goal.slice_bounds-judge_line-end
-slice_bounds-judge_line-end c = sym (gathered-length c.before.before.before.before.before.before.before.before.before)
+slice_bounds-judge_line-end c = sym (gathered-length c.before.before.before.before.before.before.before.before.before.before)
 
 pub judge_line-requires : goal.judge_line-requires
-judge_line-requires c =
-    let s = begun c.before.before.before.before.before.before.before.before.before.before in (
-      subst (λ (ms : List ℕ). Negatable (before s) ms s.args.memo.now s.args.g.0) (sym (gathered-is c.before.before.before.before.before.before.before.before.before.before)) (ready s),
-      s.pre.1,
-      omega (arith, gathered-length c.before.before.before.before.before.before.before.before.before.before, few c.before.before.before.before.before.before.before.before.before.before),
-      s.pre.4,
-      s.pre.6,
-    )
+judge_line-requires c = (
+  subst (λ (ms : List ℕ). Negatable (before c.before.before.before.before.before.before.before.before.before.before.before.before.before.before.before.before.before.before.before.before.before.before.before) ms c.args.memo.now c.args.g.0) (sym (gathered-is c.before.before.before.before.before.before.before.before.before.before.before)) (ready c.before.before.before.before.before.before.before.before.before.before.before.before.before.before.before.before.before.before.before.before.before.before.before),
+  c.requires.1,
+  omega (arith, gathered-length c.before.before.before.before.before.before.before.before.before.before.before, few c.before.before.before.before.before.before.before.before.before.before.before),
+  c.requires.4,
+  c.requires.6,
+)
 
 pub shape_of-vars : goal.shape_of-vars
 shape_of-vars c = c.judge_line.auto.vars
 
 pub shape_of-lows : goal.shape_of-lows
-shape_of-lows c = c.judge_line.auto.lows.0
+shape_of-lows c = c.judge_line.auto.lows
 
 pub shape_of-highs : goal.shape_of-highs
-shape_of-highs c = c.judge_line.auto.lows.1.0
+shape_of-highs c = c.judge_line.auto.highs
 
 pub shape_of-heads : goal.shape_of-heads
-shape_of-heads c = c.judge_line.auto.lows.1.1.0
+shape_of-heads c = c.judge_line.auto.heads
 
 pub shape_of-links : goal.shape_of-links
-shape_of-links c = c.judge_line.auto.lows.1.1.1.0
+shape_of-links c = c.judge_line.auto.links
 
 pub shape_of-memo : goal.shape_of-memo
-shape_of-memo c = c.judge_line.auto.lows.1.1.1.1.0
+shape_of-memo c = c.judge_line.auto.memo
 
 pub shape_of-marks : goal.shape_of-marks
-shape_of-marks c = c.judge_line.auto.lows.1.1.1.1.1.0
+shape_of-marks c = c.judge_line.auto.marks
 
 pub shape_of-scratch : goal.shape_of-scratch
-shape_of-scratch c = c.judge_line.auto.lows.1.1.1.1.1.1.1.0
+shape_of-scratch c = c.judge_line.auto.scratch
 
 pub returns : goal.returns
 returns c =
-    let j = c.judge_line in
-    let s = begun c.before.before.before.before.before.before.before.before.before.before.before.before.before.before.before.before.before.before.before.before.before.before.before.before.before.before.before in record { fact = subst (λ (ms : List ℕ). LineSays (before s) (said s ms) most_rounds j.result
-          (table_of j.last.0 j.last.1.0 j.last.1.1.0 j.last.1.1.1.0 j.last.1.1.1.1.0 j.result.count))
-          (gathered-is c.before.before.before.before.before.before.before.before.before.before.before.before.before.before.before.before.before.before.before.before.before.before.before.before.before.before.before) j.ensures.0; marks_after = j.ensures.1 }
+    record {
+      fact = subst (λ (ms : List ℕ). LineSays (before c.before.before.before.before.before.before.before.before.before.before.before.before.before.before.before.before.before.before.before.before.before.before.before.before.before.before.before.before.before.before.before.before.before.before.before.before.before.before.before.before) (said c.before.before.before.before.before.before.before.before.before.before.before.before.before.before.before.before.before.before.before.before.before.before.before.before.before.before.before.before.before.before.before.before.before.before.before.before.before.before.before.before ms) most_rounds c.judge_line.result
+          (table_of c.judge_line.new.vars c.judge_line.new.lows c.judge_line.new.highs c.judge_line.new.heads c.judge_line.new.links c.judge_line.result.count))
+          (gathered-is c.before.before.before.before.before.before.before.before.before.before.before.before.before.before.before.before.before.before.before.before.before.before.before.before.before.before.before.before) c.judge_line.ensures.fact;
+      marks_after = c.judge_line.ensures.marks_after;
+    }

@@ -36,67 +36,61 @@ module _ (s : lts.Start tie.the-claims reads.Pre reads.Post tie.handed_clauses) 
   held = s.requires.0
 
 -- the line is to be judged
-module _ (c : lts.After-g tie.the-claims reads.Pre reads.Post tie.handed_clauses) where
-  abbrev begun : tie.Start
-  begun = c.before.before.before.before.before.before.before.before.before.before.before.before.before.before.before.before
-
+module _ (c : lts.Past-After-known_told2 tie.the-claims reads.Pre reads.Post tie.handed_clauses) where
   abbrev root : ℕ
   root = c.in-Fits.g.0
 
-  tested : LineTested 64 (state begun) begun.args.rule begun.args.root.0 (Fits c.in-Fits.g)
+  tested : LineTested 64 (state c.before.before.before.before.before.before.before.before.before.before.before.before.before.before.before) c.args.rule c.args.root.0 (Fits c.in-Fits.g)
   tested =
-      subst (LineTested 64 (state begun) begun.args.rule begun.args.root.0) c.in-Fits.is
-      (c.line_test.ensures begun.args.heads.now begun.args.links.now begun.args.members.now
-      begun.args.struck.now)
+      subst (LineTested 64 (state c.before.before.before.before.before.before.before.before.before.before.before.before.before.before.before) c.args.rule c.args.root.0) c.in-Fits.is
+      (c.line_test.ensures c.args.heads.now c.args.links.now c.args.members.now
+      c.args.struck.now)
 
-  none : line_refusal 64 (state begun) begun.args.rule begun.args.root.0 ≡ 0
+  none : line_refusal 64 (state c.before.before.before.before.before.before.before.before.before.before.before.before.before.before.before) c.args.rule c.args.root.0 ≡ 0
   none = tested.0
 
-  root_is : root ≡ entry_node (state begun) begun.args.root.0
+  root_is : root ≡ entry_node (state c.before.before.before.before.before.before.before.before.before.before.before.before.before.before.before) c.args.root.0
   root_is = tested.1
 
 -- what the try leaves
 module _ (c : lts.After-try_line tie.the-claims reads.Pre reads.Post tie.handed_clauses) where
-  abbrev trying : tie.Start
-  trying = c.before.before.before.before.before.before.before.before.before.before.before.before.before.before.before.before.before.before.before.before.before.before.before.before.before.before
-
   abbrev table₁ : Table
-  table₁ = table_of c.try_line-j.new.vars c.try_line-j.new.lows.0 c.try_line-j.new.lows.1.0 c.try_line-j.new.lows.1.1.0
-      c.try_line-j.new.lows.1.1.1.0 trying.args.st.count
+  table₁ = table_of c.try_line-j.new.vars c.try_line-j.new.lows c.try_line-j.new.highs c.try_line-j.new.heads
+      c.try_line-j.new.links c.args.st.count
 
   abbrev scratch₁ : List ℕ
-  scratch₁ = c.try_line-j.new.lows.1.1.1.1.1.1.1.0
+  scratch₁ = c.try_line-j.new.scratch
 
-  back : table₁ ≡ before trying
+  back : table₁ ≡ before c.before.before.before.before.before.before.before.before.before.before.before.before.before.before.before.before.before.before.before.before.before.before.before.before
   back = c.try_line-j.ensures.fact.0
 
-  said : Tried (before trying) (line_of 64 (state trying) trying.args.rule (root c.before.before.before.before.before.before.before.before.before.before)) c.try_line-j.result
+  said : Tried (before c.before.before.before.before.before.before.before.before.before.before.before.before.before.before.before.before.before.before.before.before.before.before.before.before) (line_of 64 (state c.before.before.before.before.before.before.before.before.before.before.before.before.before.before.before.before.before.before.before.before.before.before.before.before) c.args.rule (root c.before.before.before.before.before.before.before.before.before)) c.try_line-j.result
   said = c.try_line-j.ensures.fact.1
 
   scratch-room : 4096 ≤ length scratch₁
-  scratch-room = omega (arith, c.try_line-j.auto.lows.1.1.1.1.1.1.1.0, (held trying).entries.room)
+  scratch-room = omega (arith, c.try_line-j.auto.scratch, (held c.before.before.before.before.before.before.before.before.before.before.before.before.before.before.before.before.before.before.before.before.before.before.before.before).entries.room)
 
 pub line_test-requires : goal.line_test-requires
-line_test-requires c = (good-readable (before c.before.before.before.before.before.before.before.before.before.before.before) (held c.before.before.before.before.before.before.before.before.before.before.before).entries.good, (held c.before.before.before.before.before.before.before.before.before.before.before).entries.inside, (held c.before.before.before.before.before.before.before.before.before.before.before).entries.few, (held c.before.before.before.before.before.before.before.before.before.before.before).entries.room, c.requires.2)
+line_test-requires c = (good-readable (before c.before.before.before.before.before.before.before.before.before.before.before.before) (held c.before.before.before.before.before.before.before.before.before.before.before.before).entries.good, (held c.before.before.before.before.before.before.before.before.before.before.before.before).entries.inside, (held c.before.before.before.before.before.before.before.before.before.before.before.before).entries.few, (held c.before.before.before.before.before.before.before.before.before.before.before.before).entries.room, c.requires.2)
 
 pub try_line-j-requires : goal.try_line-j-requires
 try_line-j-requires c =
-    let few = few-members 64 (lent c.before.before.before.before.before.before.before.before.before.before.before.before.before.before.before.before.before.before.before.before.before.before.before.before.before) c.args.st (held c.before.before.before.before.before.before.before.before.before.before.before.before.before.before.before.before.before.before.before.before.before.before.before.before.before) c.args.rule c.args.root.0 (none c.before.before.before.before.before.before.before.before.before) (root c.before.before.before.before.before.before.before.before.before) (root_is c.before.before.before.before.before.before.before.before.before) in (
-      line-ready 64 (lent c.before.before.before.before.before.before.before.before.before.before.before.before.before.before.before.before.before.before.before.before.before.before.before.before.before) c.args.st (held c.before.before.before.before.before.before.before.before.before.before.before.before.before.before.before.before.before.before.before.before.before.before.before.before.before) c.args.rule c.args.root.0 (none c.before.before.before.before.before.before.before.before.before) (root c.before.before.before.before.before.before.before.before.before) (root_is c.before.before.before.before.before.before.before.before.before)
-          c.line_test.new.1.1.1.0
-          (omega (arith, c.requires.2, c.line_test.auto.1.1.1.0)),
+    let few = few-members 64 (lent c.before.before.before.before.before.before.before.before.before.before.before.before.before.before.before.before.before.before.before.before.before.before.before.before) c.args.st (held c.before.before.before.before.before.before.before.before.before.before.before.before.before.before.before.before.before.before.before.before.before.before.before.before) c.args.rule c.args.root.0 (none c.before.before.before.before.before.before.before.before.before) (root c.before.before.before.before.before.before.before.before.before) (root_is c.before.before.before.before.before.before.before.before.before) in (
+      line-ready 64 (lent c.before.before.before.before.before.before.before.before.before.before.before.before.before.before.before.before.before.before.before.before.before.before.before.before) c.args.st (held c.before.before.before.before.before.before.before.before.before.before.before.before.before.before.before.before.before.before.before.before.before.before.before.before) c.args.rule c.args.root.0 (none c.before.before.before.before.before.before.before.before.before) (root c.before.before.before.before.before.before.before.before.before) (root_is c.before.before.before.before.before.before.before.before.before)
+          c.line_test.new.memo
+          (omega (arith, c.requires.2, c.line_test.auto.memo)),
       c.requires.1,
       omega (arith, few),
-      (held c.before.before.before.before.before.before.before.before.before.before.before.before.before.before.before.before.before.before.before.before.before.before.before.before.before).room,
-      (held c.before.before.before.before.before.before.before.before.before.before.before.before.before.before.before.before.before.before.before.before.before.before.before.before.before).entries.room,
-      (held c.before.before.before.before.before.before.before.before.before.before.before.before.before.before.before.before.before.before.before.before.before.before.before.before.before).marked,
-      few-paths 64 (lent c.before.before.before.before.before.before.before.before.before.before.before.before.before.before.before.before.before.before.before.before.before.before.before.before.before) c.args.st (held c.before.before.before.before.before.before.before.before.before.before.before.before.before.before.before.before.before.before.before.before.before.before.before.before.before) c.args.rule c.args.root.0 (none c.before.before.before.before.before.before.before.before.before) (root c.before.before.before.before.before.before.before.before.before) (root_is c.before.before.before.before.before.before.before.before.before),
+      (held c.before.before.before.before.before.before.before.before.before.before.before.before.before.before.before.before.before.before.before.before.before.before.before.before).room,
+      (held c.before.before.before.before.before.before.before.before.before.before.before.before.before.before.before.before.before.before.before.before.before.before.before.before).entries.room,
+      (held c.before.before.before.before.before.before.before.before.before.before.before.before.before.before.before.before.before.before.before.before.before.before.before.before).marked,
+      few-paths 64 (lent c.before.before.before.before.before.before.before.before.before.before.before.before.before.before.before.before.before.before.before.before.before.before.before.before) c.args.st (held c.before.before.before.before.before.before.before.before.before.before.before.before.before.before.before.before.before.before.before.before.before.before.before.before) c.args.rule c.args.root.0 (none c.before.before.before.before.before.before.before.before.before) (root c.before.before.before.before.before.before.before.before.before) (root_is c.before.before.before.before.before.before.before.before.before),
     )
 
 pub ended-requires : goal.ended-requires
 ended-requires c =
-    let few = few-members 64 (lent c.before.before.before.before.before.before.before.before.before.before.before.before.before.before.before.before.before.before.before.before.before.before.before.before.before.before.before.before.before.before.before.before.before.before.before.before.before.before.before.before.before.before.before) c.args.st (held c.before.before.before.before.before.before.before.before.before.before.before.before.before.before.before.before.before.before.before.before.before.before.before.before.before.before.before.before.before.before.before.before.before.before.before.before.before.before.before.before.before.before.before) c.args.rule c.args.root.0 (none c.before.before.before.before.before.before.before.before.before.before.before.before.before.before.before.before.before.before.before.before.before.before.before.before.before.before.before) (root c.before.before.before.before.before.before.before.before.before.before.before.before.before.before.before.before.before.before.before.before.before.before.before.before.before.before.before) (root_is c.before.before.before.before.before.before.before.before.before.before.before.before.before.before.before.before.before.before.before.before.before.before.before.before.before.before.before) in
-    (few, (held c.before.before.before.before.before.before.before.before.before.before.before.before.before.before.before.before.before.before.before.before.before.before.before.before.before.before.before.before.before.before.before.before.before.before.before.before.before.before.before.before.before.before.before).room, (held c.before.before.before.before.before.before.before.before.before.before.before.before.before.before.before.before.before.before.before.before.before.before.before.before.before.before.before.before.before.before.before.before.before.before.before.before.before.before.before.before.before.before.before).lines, omega (arith, (held c.before.before.before.before.before.before.before.before.before.before.before.before.before.before.before.before.before.before.before.before.before.before.before.before.before.before.before.before.before.before.before.before.before.before.before.before.before.before.before.before.before.before.before).rounds, (held c.before.before.before.before.before.before.before.before.before.before.before.before.before.before.before.before.before.before.before.before.before.before.before.before.before.before.before.before.before.before.before.before.before.before.before.before.before.before.before.before.before.before.before).lines, (said c.before.before.before.before.before.before.before.before.before.before.before.before.before.before.before.before.before).most))
+    let few = few-members 64 (lent c.before.before.before.before.before.before.before.before.before.before.before.before.before.before.before.before.before.before.before.before.before.before.before.before.before.before.before.before.before.before.before.before.before.before.before.before.before.before.before.before.before.before) c.args.st (held c.before.before.before.before.before.before.before.before.before.before.before.before.before.before.before.before.before.before.before.before.before.before.before.before.before.before.before.before.before.before.before.before.before.before.before.before.before.before.before.before.before.before) c.args.rule c.args.root.0 (none c.before.before.before.before.before.before.before.before.before.before.before.before.before.before.before.before.before.before.before.before.before.before.before.before.before.before.before) (root c.before.before.before.before.before.before.before.before.before.before.before.before.before.before.before.before.before.before.before.before.before.before.before.before.before.before.before) (root_is c.before.before.before.before.before.before.before.before.before.before.before.before.before.before.before.before.before.before.before.before.before.before.before.before.before.before.before) in
+    (few, (held c.before.before.before.before.before.before.before.before.before.before.before.before.before.before.before.before.before.before.before.before.before.before.before.before.before.before.before.before.before.before.before.before.before.before.before.before.before.before.before.before.before.before).room, (held c.before.before.before.before.before.before.before.before.before.before.before.before.before.before.before.before.before.before.before.before.before.before.before.before.before.before.before.before.before.before.before.before.before.before.before.before.before.before.before.before.before.before).lines, omega (arith, (held c.before.before.before.before.before.before.before.before.before.before.before.before.before.before.before.before.before.before.before.before.before.before.before.before.before.before.before.before.before.before.before.before.before.before.before.before.before.before.before.before.before.before).rounds, (held c.before.before.before.before.before.before.before.before.before.before.before.before.before.before.before.before.before.before.before.before.before.before.before.before.before.before.before.before.before.before.before.before.before.before.before.before.before.before.before.before.before.before).lines, (said c.before.before.before.before.before.before.before.before.before.before.before.before.before.before.before.before.before.before).most))
 
 pub shape_of-vars-in-Refused : goal.shape_of-vars-in-Refused
 shape_of-vars-in-Refused c = refl
@@ -108,46 +102,49 @@ pub shape_of-highs-in-Refused : goal.shape_of-highs-in-Refused
 shape_of-highs-in-Refused c = refl
 
 pub shape_of-memo-in-Refused : goal.shape_of-memo-in-Refused
-shape_of-memo-in-Refused c = c.line_test.auto.1.1.1.0
+shape_of-memo-in-Refused c = c.line_test.auto.memo
 
 pub shape_of-scratch-in-Refused : goal.shape_of-scratch-in-Refused
 shape_of-scratch-in-Refused c = refl
 
 pub returns-in-Refused : goal.returns-in-Refused
 returns-in-Refused c =
-    let told = subst (LineTested 64 (state c.before.before.before.before.before.before.before.before.before.before.before.before.before.before.before.before.before) c.args.rule c.args.root.0) c.in-Refused.is
+    let told = subst (LineTested 64 (state c.before.before.before.before.before.before.before.before.before.before.before.before.before.before.before.before) c.args.rule c.args.root.0) c.in-Refused.is
     (c.line_test.ensures c.args.heads.now c.args.links.now c.args.members.now
     c.args.struck.now) in
-    record { stepped = (λ n H. line_refused n (lent c.before.before.before.before.before.before.before.before.before.before.before.before.before.before.before.before.before) c.args.st H c.args.rule c.args.root.0 _ told.0 told.1); marks_after = c.requires.1 }
+    record { stepped = (λ n H. line_refused n (lent c.before.before.before.before.before.before.before.before.before.before.before.before.before.before.before.before) c.args.st H c.args.rule c.args.root.0 _ told.0 told.1); marks_after = c.requires.1 }
 
 pub shape_of-vars-in-Fits : goal.shape_of-vars-in-Fits
 shape_of-vars-in-Fits c = c.try_line-j.auto.vars
 
 pub shape_of-lows-in-Fits : goal.shape_of-lows-in-Fits
-shape_of-lows-in-Fits c = c.try_line-j.auto.lows.0
+shape_of-lows-in-Fits c = c.try_line-j.auto.lows
 
 pub shape_of-highs-in-Fits : goal.shape_of-highs-in-Fits
-shape_of-highs-in-Fits c = c.try_line-j.auto.lows.1.0
+shape_of-highs-in-Fits c = c.try_line-j.auto.highs
 
 pub shape_of-heads : goal.shape_of-heads
-shape_of-heads c = c.try_line-j.auto.lows.1.1.0
+shape_of-heads c = c.try_line-j.auto.heads
 
 pub shape_of-links : goal.shape_of-links
-shape_of-links c = c.try_line-j.auto.lows.1.1.1.0
+shape_of-links c = c.try_line-j.auto.links
 
 pub shape_of-memo-in-Fits : goal.shape_of-memo-in-Fits
-shape_of-memo-in-Fits c = c.try_line-j.auto.lows.1.1.1.1.0 ∙ c.line_test.auto.1.1.1.0
+shape_of-memo-in-Fits c = c.try_line-j.auto.memo ∙ c.line_test.auto.memo
 
 pub shape_of-marks : goal.shape_of-marks
-shape_of-marks c = c.try_line-j.auto.lows.1.1.1.1.1.0
+shape_of-marks c = c.try_line-j.auto.marks
 
 pub shape_of-members : goal.shape_of-members
 shape_of-members c = c.ended.auto.members
 
 pub shape_of-scratch-in-Fits : goal.shape_of-scratch-in-Fits
-shape_of-scratch-in-Fits c = c.try_line-j.auto.lows.1.1.1.1.1.1.1.0
+shape_of-scratch-in-Fits c = c.try_line-j.auto.scratch
 
 pub returns-in-Fits : goal.returns-in-Fits
 returns-in-Fits c =
-    record { stepped = (λ n H. line-stepped n (lent c.before.before.before.before.before.before.before.before.before.before.before.before.before.before.before.before.before.before.before.before.before.before.before.before.before.before.before.before.before.before.before.before.before.before.before.before.before.before.before.before.before.before.before.before.before.before) c.args.st H c.args.rule c.args.root.0 (none c.before.before.before.before.before.before.before.before.before.before.before.before.before.before.before.before.before.before.before.before.before.before.before.before.before.before.before.before.before.before) (root c.before.before.before.before.before.before.before.before.before.before.before.before.before.before.before.before.before.before.before.before.before.before.before.before.before.before.before.before.before.before) (root_is c.before.before.before.before.before.before.before.before.before.before.before.before.before.before.before.before.before.before.before.before.before.before.before.before.before.before.before.before.before.before) c.try_line-j.result
-          (said c.before.before.before.before.before.before.before.before.before.before.before.before.before.before.before.before.before.before.before.before) (table₁ c.before.before.before.before.before.before.before.before.before.before.before.before.before.before.before.before.before.before.before.before) (back c.before.before.before.before.before.before.before.before.before.before.before.before.before.before.before.before.before.before.before.before) (scratch₁ c.before.before.before.before.before.before.before.before.before.before.before.before.before.before.before.before.before.before.before.before) (scratch-room c.before.before.before.before.before.before.before.before.before.before.before.before.before.before.before.before.before.before.before.before) c.ended.ensures.value c.ended.ensures.members_after); marks_after = c.try_line-j.ensures.marks_after }
+    record {
+      stepped = (λ n H. line-stepped n (lent c.before.before.before.before.before.before.before.before.before.before.before.before.before.before.before.before.before.before.before.before.before.before.before.before.before.before.before.before.before.before.before.before.before.before.before.before.before.before.before.before.before.before.before.before.before) c.args.st H c.args.rule c.args.root.0 (none c.before.before.before.before.before.before.before.before.before.before.before.before.before.before.before.before.before.before.before.before.before.before.before.before.before.before.before.before.before.before) (root c.before.before.before.before.before.before.before.before.before.before.before.before.before.before.before.before.before.before.before.before.before.before.before.before.before.before.before.before.before.before) (root_is c.before.before.before.before.before.before.before.before.before.before.before.before.before.before.before.before.before.before.before.before.before.before.before.before.before.before.before.before.before.before) c.try_line-j.result
+          (said c.before.before.before.before.before.before.before.before.before.before.before.before.before.before.before.before.before.before.before.before.before) (table₁ c.before.before.before.before.before.before.before.before.before.before.before.before.before.before.before.before.before.before.before.before.before) (back c.before.before.before.before.before.before.before.before.before.before.before.before.before.before.before.before.before.before.before.before.before) (scratch₁ c.before.before.before.before.before.before.before.before.before.before.before.before.before.before.before.before.before.before.before.before.before) (scratch-room c.before.before.before.before.before.before.before.before.before.before.before.before.before.before.before.before.before.before.before.before.before) c.ended.ensures.value c.ended.ensures.members_after);
+      marks_after = c.try_line-j.ensures.marks_after;
+    }

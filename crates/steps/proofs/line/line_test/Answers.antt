@@ -32,14 +32,11 @@ module _ (s : lts.Start tie.the-claims reads.Pre reads.Post) (ds ks ms ss : List
 
 -- the entry is there
 module _ (c : lts.Else1 tie.the-claims reads.Pre reads.Post) (ds ks ms ss : List ℕ) where
-  abbrev start : tie.Start
-  start = c.before.before.before.before.before.before.before
-
-  entry : is_entry (state start ds ks ms ss) start.args.root.0 ≡ true
-  entry = entry-told (lent start ds ks ms ss) start.args.st (room start ds ks ms ss) _ _ _ c.is_entry.ensures
+  entry : is_entry (state c.before.before.before.before.before.before.before ds ks ms ss) c.args.root.0 ≡ true
+  entry = entry-told (lent c.before.before.before.before.before.before.before ds ks ms ss) c.args.st (room c.before.before.before.before.before.before.before ds ks ms ss) _ _ _ c.is_entry.ensures
       (not-false _ c.if-not-is_entry.false-raw)
 
-  there : start.args.root.0 < start.args.st.entries + 2
+  there : c.args.root.0 < c.args.st.entries + 2
   there = ltb-true _ _ (sym c.is_entry.ensures ∙ not-false _ c.if-not-is_entry.false-raw)
 
 pub is_entry-requires : goal.is_entry-requires
@@ -47,14 +44,14 @@ is_entry-requires c = c.requires.2
 
 pub returns-then-not-is_entry : goal.returns-then-not-is_entry
 returns-then-not-is_entry c = λ ds ks ms ss. (
-  line-13 64 (state c.before.before.before.before.before.before.before ds ks ms ss) c.args.root.0 c.args.rule
-      (entry-told (lent c.before.before.before.before.before.before.before ds ks ms ss) c.args.st (room c.before.before.before.before.before.before.before ds ks ms ss) _ _ _ c.is_entry.ensures
+  line-13 64 (state c.before.before.before.before.before.before.before.before ds ks ms ss) c.args.root.0 c.args.rule
+      (entry-told (lent c.before.before.before.before.before.before.before.before ds ks ms ss) c.args.st (room c.before.before.before.before.before.before.before.before ds ks ms ss) _ _ _ c.is_entry.ensures
       (not-true _ c.if-not-is_entry.true-raw)),
   λ e. omega (arith, e),
 )
 
 pub entry_node-g-requires : goal.entry_node-g-requires
-entry_node-g-requires c = (room c.before.before.before.before.before.before.before [] [] [] [], there (c) [] [] [] [])
+entry_node-g-requires c = (room c.before.before.before.before.before.before.before.before [] [] [] [], there c.before [] [] [] [])
 
 pub returns-then-waits : goal.returns-then-waits
 returns-then-waits c = λ ds ks ms ss. (
