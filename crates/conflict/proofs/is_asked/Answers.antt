@@ -8,7 +8,7 @@ use Rattle.conflict.proofs.is_asked.Goals as goal
 pub returns-then-all : goal.returns-then-all
 unfolding asks
 returns-then-all c =
-    rw c.if-all.true (ap not c.value_of_lem.ensures)
+    rw c.if-all.true (ap not c.value_of.ensures)
 
 pub returns : goal.returns
 unfolding asks

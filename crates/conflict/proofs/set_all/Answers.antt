@@ -14,7 +14,7 @@ loop-i-init c = (refl, omega arith, refl)
 
 -- src/lib.rt:33:17
 pub overflow_cast-k : goal.overflow_cast-k
-overflow_cast-k c = omega (arith, c.shared_slice_known-1.given c.loop-i.i)
+overflow_cast-k c = omega (arith, c.type_inv.list c.loop-i.i)
 
 -- src/lib.rt:34:9
 pub bounds-marks-k : goal.bounds-marks-k

@@ -8,23 +8,7 @@ use Rattle.table.specs.declared.Found.TheVariants.{At}
 use Rattle.table.specs.Indexed.{Table, table_of}
 use Rattle.conflict.specs.Members.{NegatedBy}
 use Rattle.conflict.proofs.Marked.{StillAsked, still-passed, still-unmarked, marked-conflict}
-use Rattle.conflict.proofs.thin_negated.Reads as reads
-use Rattle.conflict.proofs.thin_negated.Lts as lts
-use Rattle.conflict.proofs.thin_negated.Tie as tie
 use Rattle.conflict.proofs.thin_negated.Goals as goal
-
-abbrev table : lts.Start tie.the-claims reads.Pre reads.Post goal.the-invariant-loop-i goal.the-decreases-loop-i → Table
-table s = let a = s.args in table_of a.vars.now a.lows.now a.highs.now a.heads.now a.links.now a.count
-
--- the node found
-module _ (c : lts.Else1 tie.the-claims reads.Pre reads.Post goal.the-invariant-loop-i goal.the-decreases-loop-i) where
-  there : (c.next_negation-next.result.place < length c.args.asked.now)
-      × NegatedBy (table c.before.before.before.before.before.before.before.before.before.before.before.before) (get_or c.args.asked.now
-      c.next_negation-next.result.place 0) c.next_negation-next.result.node.0
-  there = c.next_negation-next.ensures.1 (not-false _ c.if-not-next.false)
-
-length-fits : (c : lts.In-loop tie.the-claims reads.Pre reads.Post goal.the-invariant-loop-i goal.the-decreases-loop-i) → length c.args.asked.now < 18446744073709551616
-length-fits c = omega arith
 
 pub loop-i-init : goal.loop-i-init
 loop-i-init c = (c.requires.2, λ list M N. N)
@@ -34,24 +18,40 @@ next_negation-next-requires c = let r = c.requires in (r.0, r.1, c.loop-i.invari
 
 pub returns-then-not-next : goal.returns-then-not-next
 returns-then-not-next c =
+    let table : Table =
+    let a = c.args in table_of a.vars.now a.lows.now a.highs.now a.heads.now a.links.now a.count in
     let a = c.args in
-    let w = c.loop-i in
-    λ list M N. still-passed (table c.before.before.before.before.before.before.before.before.before.before.before.before) c.requires.0 a.asked.now a.marks.now a.all a.from w.i _
-    c.next_negation-next.ensures.0 w.inv.1 list M N
+    λ list M N. still-passed table c.requires.0 a.asked.now a.marks.now a.all a.from c.loop-i.i _
+    c.next_negation-next.ensures.0 c.loop-i.invariant.1 list M N
 
 pub bounds-marks-k : goal.bounds-marks-k
 bounds-marks-k c =
-    omega (arith, c.requires.3, c.requires.0.within, (there c.before.before.before).1.0)
+    let table : Table =
+    let a = c.args in table_of a.vars.now a.lows.now a.highs.now a.heads.now a.links.now a.count in
+    let there : (c.next_negation-next.result.place < length c.args.asked.now) × NegatedBy table (get_or c.args.asked.now c.next_negation-next.result.place 0) c.next_negation-next.result.node.0 =
+    c.next_negation-next.ensures.1 (not-false _ c.if-not-next.false) in
+    omega (arith, c.requires.3, c.requires.0.within, there.1.0)
 
 pub returns-then-marks-k-eq1 : goal.returns-then-marks-k-eq1
 returns-then-marks-k-eq1 c =
+    let table : Table =
+    let a = c.args in table_of a.vars.now a.lows.now a.highs.now a.heads.now a.links.now a.count in
+    let there : (c.next_negation-next.result.place < length c.args.asked.now) × NegatedBy table (get_or c.args.asked.now c.next_negation-next.result.place 0) c.next_negation-next.result.node.0 =
+    c.next_negation-next.ensures.1 (not-false _ c.if-not-next.false) in
     let a = c.args in
     let y = c.next_negation-next.result in
-    λ list M N. marked-conflict (table c.before.before.before.before.before.before.before.before.before.before.before.before.before.before.before.before) c.requires.0 a.asked.now a.marks.now a.all a.from y.place (there c.before.before.before.before).0
-    (At y.node) (there c.before.before.before.before).1 (eq-eqb _ _ c.if-marks-k-eq1.true) list M
+    λ list M N. marked-conflict table c.requires.0 a.asked.now a.marks.now a.all a.from y.place there.0
+    (At y.node) there.1 (eq-eqb _ _ c.if-marks-k-eq1.true) list M
 
 pub overflow_add-i : goal.overflow_add-i
-overflow_add-i c = omega (arith, (there c.before.before.before.before.before).0, length-fits c.before.before.before.before.before.before.before.before)
+overflow_add-i c =
+    let table : Table =
+    let a = c.args in table_of a.vars.now a.lows.now a.highs.now a.heads.now a.links.now a.count in
+    let there : (c.next_negation-next.result.place < length c.args.asked.now) × NegatedBy table (get_or c.args.asked.now c.next_negation-next.result.place 0) c.next_negation-next.result.node.0 =
+    c.next_negation-next.ensures.1 (not-false _ c.if-not-next.false) in
+    let length-fits : length c.args.asked.now < 18446744073709551616 =
+    omega arith in
+    omega (arith, there.0, length-fits)
 
 pub loop-i-smaller : goal.loop-i-smaller
 loop-i-smaller c =
@@ -59,14 +59,16 @@ loop-i-smaller c =
 
 pub loop-i-preserved : goal.loop-i-preserved
 loop-i-preserved c =
-    let a = c.args in
-    let w = c.loop-i in
-    let y = c.next_negation-next in (
-      omega (arith, (there c.before.before.before.before.before).0),
-      still-unmarked (table c.before.before.before.before.before.before.before.before.before.before.before.before.before.before.before.before.before) c.requires.0 a.asked.now a.marks.now a.all a.from y.result.place (there c.before.before.before.before.before).0
-          (At y.result.node) (there c.before.before.before.before.before).1 (ne_eqb _ _ c.if-marks-k-eq1.false)
-          (still-passed (table c.before.before.before.before.before.before.before.before.before.before.before.before.before.before.before.before.before) c.requires.0 a.asked.now a.marks.now a.all a.from w.i y.result.place y.ensures.0
-          w.inv.1),
+    let table : Table =
+    let a = c.args in table_of a.vars.now a.lows.now a.highs.now a.heads.now a.links.now a.count in
+    let there : (c.next_negation-next.result.place < length c.args.asked.now) × NegatedBy table (get_or c.args.asked.now c.next_negation-next.result.place 0) c.next_negation-next.result.node.0 =
+    c.next_negation-next.ensures.1 (not-false _ c.if-not-next.false) in
+    let a = c.args in (
+      omega (arith, there.0),
+      still-unmarked table c.requires.0 a.asked.now a.marks.now a.all a.from c.next_negation-next.result.place there.0
+          (At c.next_negation-next.result.node) there.1 (ne_eqb _ _ c.if-marks-k-eq1.false)
+          (still-passed table c.requires.0 a.asked.now a.marks.now a.all a.from c.loop-i.i c.next_negation-next.result.place c.next_negation-next.ensures.0
+          c.loop-i.invariant.1),
     )
 
 pub returns : goal.returns
