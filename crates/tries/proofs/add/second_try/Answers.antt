@@ -27,13 +27,13 @@ module _ (s : lts.Start tie.the-claims reads.Pre reads.Post tie.handed_clauses) 
       s.args.members.now s.args.scratch.now s.args.struck.now
 
   -- what it tells of a state
-  module _ (a : tie.After-try-line) where
+  module _ (a : lts.After-try_line tie.the-claims reads.Pre reads.Post tie.handed_clauses) where
     abbrev after : State → Table
-    after st = table_of a.try-line.new.0 a.try-line.new.1.0 a.try-line.new.1.1.0 a.try-line.new.1.1.1.0
-        a.try-line.new.1.1.1.1.0 st.count
+    after st = table_of a.try_line.new.vars a.try_line.new.lows a.try_line.new.highs a.try_line.new.heads
+        a.try_line.new.links st.count
 
     abbrev Told : State → Type 0
-    Told st = (after st ≡ table st) × Tried (table st) (line_of 64 (state_of lent st) Pr s.args.g.0) a.try-line.result
+    Told st = (after st ≡ table st) × Tried (table st) (line_of 64 (state_of lent st) Pr s.args.g.0) a.try_line.result
 
   -- what trying asks of a state
   abbrev Asked : State → Type 0
@@ -51,7 +51,7 @@ witness-w-requires c = subst PivotFits c.in-First.is c.requires.6
 
 pub try_line-requires : goal.try_line-requires
 try_line-requires c =
-    subst (Asked c.before.before.before.before.before.before.before.before.before.before.before.before.before.before.before.before.before.before.before.before.before.before.before.before) (sym c.with_witness.ensures) (c.requires.0, c.requires.1, c.requires.2, c.requires.3, c.requires.4, c.requires.5, tt)
+    subst (Asked c.before.before.before.before.before.before.before.before.before.before.before.before.before.before.before.before.before.before.before.before.before.before.before) (sym c.with_witness.ensures) (c.requires.0, c.requires.1, c.requires.2, c.requires.3, c.requires.4, c.requires.5, tt)
 
 pub returns-in-Nothing : goal.returns-in-Nothing
 returns-in-Nothing c = record { fact = (refl, second_none _ _ _ _ _ c.in-Nothing.is); marks_after = c.requires.1 }
@@ -60,32 +60,35 @@ pub shape_of-vars : goal.shape_of-vars
 shape_of-vars c = c.try_line.auto.vars
 
 pub shape_of-lows : goal.shape_of-lows
-shape_of-lows c = c.try_line.auto.lows.0
+shape_of-lows c = c.try_line.auto.lows
 
 pub shape_of-highs : goal.shape_of-highs
-shape_of-highs c = c.try_line.auto.lows.1.0
+shape_of-highs c = c.try_line.auto.highs
 
 pub shape_of-heads : goal.shape_of-heads
-shape_of-heads c = c.try_line.auto.lows.1.1.0
+shape_of-heads c = c.try_line.auto.heads
 
 pub shape_of-links : goal.shape_of-links
-shape_of-links c = c.try_line.auto.lows.1.1.1.0
+shape_of-links c = c.try_line.auto.links
 
 pub shape_of-memo : goal.shape_of-memo
-shape_of-memo c = c.try_line.auto.lows.1.1.1.1.0
+shape_of-memo c = c.try_line.auto.memo
 
 pub shape_of-marks : goal.shape_of-marks
-shape_of-marks c = c.try_line.auto.lows.1.1.1.1.1.0
+shape_of-marks c = c.try_line.auto.marks
 
 pub shape_of-scratch : goal.shape_of-scratch
-shape_of-scratch c = c.try_line.auto.lows.1.1.1.1.1.1.1.0
+shape_of-scratch c = c.try_line.auto.scratch
 
 pub returns-in-First : goal.returns-in-First
 returns-in-First c =
-    let s = c.before.before.before.before.before.before.before.before.before.before.before.before.before.before.before.before.before.before.before.before.before.before.before.before.before.before.before.before.before.before.before.before.before.before.before.before.before.before.before.before.before in
-    let a = c.before.before.before.before.before.before.before.before.before.before.before.before.before.before.before.before in
-    let told = subst (Told s a) c.with_witness.ensures c.try_line.ensures.fact in record { fact = (
+    let s = c.before.before.before.before.before.before.before.before.before.before.before.before.before.before.before.before.before.before.before.before.before.before.before.before.before.before.before.before.before.before.before.before.before.before.before.before.before.before.before.before in
+    let a = c.before.before.before.before.before.before.before.before.before.before.before.before.before.before.before.before.before in
+    let told = subst (Told s a) c.with_witness.ensures c.try_line.ensures.fact in record {
+      fact = (
         told.0,
         second-tried _ _ _ _ _ _ _ c.in-First.is _ c.witness-w.ensures _
             told.1,
-      ); marks_after = c.try_line.ensures.marks_after }
+      );
+      marks_after = c.try_line.ensures.marks_after;
+    }

@@ -11,15 +11,13 @@ loop-i-init c = (omega arith, λ k p. absurd (omega arith))
 
 pub returns-then-is_there : goal.returns-then-is_there
 returns-then-is_there c =
-    let l = c.loop-i in
-    there-lowest _ _ _ _ _ l.inv.0 l.inv.1 (sym c.is_there.ensures ∙ c.if-is_there.true)
+    there-lowest _ _ _ _ _ c.loop-i.invariant.0 c.loop-i.invariant.1 (sym c.is_there.ensures ∙ c.if-is_there.true)
 
 pub loop-i-preserved : goal.loop-i-preserved
 loop-i-preserved c =
-    let l = c.loop-i in
     let s = c.args in (
       omega (arith, c.loop-i-test.true),
-      none_more s.members.now s.struck.now s.g.0 _ l.inv.1
+      none_more s.members.now s.struck.now s.g.0 _ c.loop-i.invariant.1
           (sym c.is_there.ensures ∙ c.if-is_there.false),
     )
 

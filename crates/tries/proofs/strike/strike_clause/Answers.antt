@@ -35,8 +35,8 @@ lowest-i-requires c = (c.requires.2, c.requires.3)
 
 pub returns-then-st-i : goal.returns-then-st-i
 returns-then-st-i c =
-    let found = subst (stands c.before.before.before.before.before.before.before.before.before.before.before.before.before.before.before) c.in-At.is c.find.ensures in
-    λ n cs ls H w is. strike-none n (lent c.before.before.before.before.before.before.before.before.before.before.before.before.before.before.before cs) c.args.st H ls w c.args.clause is _ _ found c.lowest-i.ensures
+    let found = subst (stands c.before.before.before.before.before.before.before.before.before.before.before.before.before.before) c.in-At.is c.find.ensures in
+    λ n cs ls H w is. strike-none n (lent c.before.before.before.before.before.before.before.before.before.before.before.before.before.before cs) c.args.st H ls w c.args.clause is _ _ found c.lowest-i.ensures
     c.if-st-i.true
 
 pub bounds-struck-i : goal.bounds-struck-i
@@ -44,8 +44,8 @@ bounds-struck-i c = omega (arith, c.if-st-i.false, c.requires.3)
 
 pub returns-else-st-i : goal.returns-else-st-i
 returns-else-st-i c =
-    let found = subst (stands c.before.before.before.before.before.before.before.before.before.before.before.before.before.before.before) c.in-At.is c.find.ensures in
-    λ n cs ls H w is. strike-lowest n (lent c.before.before.before.before.before.before.before.before.before.before.before.before.before.before.before cs) c.args.st H ls w c.args.clause is _ _ found c.lowest-i.ensures
+    let found = subst (stands c.before.before.before.before.before.before.before.before.before.before.before.before.before.before) c.in-At.is c.find.ensures in
+    λ n cs ls H w is. strike-lowest n (lent c.before.before.before.before.before.before.before.before.before.before.before.before.before.before cs) c.args.st H ls w c.args.clause is _ _ found c.lowest-i.ensures
     c.if-st-i.false
 
 pub returns-in-Nothing : goal.returns-in-Nothing
