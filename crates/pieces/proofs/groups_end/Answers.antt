@@ -1,0 +1,6 @@
+use Rattle.pieces.proofs.Binary.{ends-groups}
+use borrow.Author.Rules.{rules}
+use Rattle.pieces.proofs.groups_end.Goals as goal
+
+pub returns : goal.returns
+returns c = ends-groups c.args.s.now c.args.at _ c.groups_at-groups.ensures
