@@ -14,13 +14,11 @@ all_by-requires c =
 
 pub returns : goal.returns
 returns c =
-    let all = let a = c.args in
+    let a = c.args in
     let r = c.requires in
-    let e = c.all_by.ensures in (
-      e.0,
-      (
-        e.1.0,
-        λ f. round-writes (table_of a.vars.now a.lows.now a.highs.now a.heads.now a.links.now a.count)
-            a.list.now a.u r.3 _ (e.1.1 f),
-      ),
-    ) in record { fact = all.0; supports = all.1; written_value = all.2 }
+    let e = c.all_by.ensures in record {
+      fact = e.fact_3;
+      supports = e.supports;
+      written_value = λ f. round-writes (table_of a.vars.now a.lows.now a.highs.now a.heads.now a.links.now a.count)
+          a.list.now a.u r.3 _ (e.written_value f);
+    }
