@@ -1,0 +1,7 @@
+-- A byte put at its place. Assumes nothing.
+use borrow.Author.Rules.{rules}
+use Rattle.report.proofs.Putting.{put_one}
+use Rattle.report.proofs.put.put_byte.Goals as goal
+
+pub returns : goal.returns
+returns c = put_one _ _ _ (search rules)
