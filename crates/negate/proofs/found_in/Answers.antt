@@ -1,5 +1,4 @@
 -- `found_in` reads the entry. Assumes nothing.
-use borrow.Author.Rules.{rules}
 use borrow.Author.Tests.{eq-eqb, ne_eqb}
 use Rattle.negate.specs.Negations.{found_in}
 use Rattle.negate.proofs.found_in.Goals as goal
