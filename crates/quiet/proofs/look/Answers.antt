@@ -12,22 +12,14 @@ use Rattle.walks.proofs.Here.{good-readable}
 use Rattle.unit_search.specs.Units.{AreFirst}
 use Rattle.propagate.proofs.Quieting.{asked-all, units-all}
 use Rattle.quiet.proofs.Known.{unitless-all, nothing_known}
-use Rattle.quiet.proofs.look.Reads as reads
-use Rattle.quiet.proofs.look.Lts as lts
-use Rattle.quiet.proofs.look.Tie as tie
 use Rattle.quiet.proofs.look.Goals as goal
-
-module _ (s : lts.Start tie.the-claims reads.Pre reads.Post tie.handed_clauses) where
-  abbrev nodes : List Node
-  nodes = nodes_of (table_of s.args.vars.now s.args.lows.now s.args.highs.now s.args.heads.now s.args.links.now
-      s.args.count)
-
-  abbrev members : List Diagram
-  members = diagrams_of nodes s.args.list.now
 
 pub conflicts-requires : goal.conflicts-requires
 conflicts-requires c =
-    record { fact = (c.requires.0, c.requires.1); fact_2 = asked-all (nodes c.before.before.before.before.before.before.before.before.before.before) c.args.list.now }
+    let nodes : List Node =
+    nodes_of (table_of c.args.vars.now c.args.lows.now c.args.highs.now c.args.heads.now c.args.links.now
+    c.args.count) in
+    record { fact = (c.requires.0, c.requires.1); fact_2 = asked-all nodes c.args.list.now }
 
 pub returns-then-conflicts : goal.returns-then-conflicts
 returns-then-conflicts c =
@@ -36,30 +28,52 @@ returns-then-conflicts c =
 pub first_units-requires : goal.first_units-requires
 unfolding nodes_of
 first_units-requires c =
-    let y = c.conflicts in record { readable = (
+    let nodes : List Node =
+    nodes_of (table_of c.args.vars.now c.args.lows.now c.args.highs.now c.args.heads.now c.args.links.now
+    c.args.count) in
+    let members : List Diagram =
+    diagrams_of nodes c.args.list.now in
+    record {
+      readable = (
         good-readable (table_of c.args.vars.now c.args.lows.now c.args.highs.now c.args.heads.now c.args.links.now
             c.args.count) c.requires.0.good,
         c.requires.0.inside,
-        omega (arith, y.kept.1.1.1.1.1.0, c.requires.0.room),
-      ); fact = units-all (members c.before.before.before.before.before.before.before.before.before.before.before.before.before.before.before.before.before) }
+        omega (arith, c.conflicts.auto.memo, c.requires.0.room),
+      );
+      fact = units-all members;
+    }
 
 pub returns-in-Of : goal.returns-in-Of
 unfolding nodes_of
 returns-in-Of c =
-    let y = c.conflicts in
-    let f = subst (AreFirst 64 (members c.before.before.before.before.before.before.before.before.before.before.before.before.before.before.before.before.before.before.before.before.before.before.before)) c.in-Of.is c.first_units.ensures in record { fact = record {
-        none = λ _. sym y.ensures.0 ∙ c.if-conflicts.false;
+    let nodes : List Node =
+    nodes_of (table_of c.args.vars.now c.args.lows.now c.args.highs.now c.args.heads.now c.args.links.now
+    c.args.count) in
+    let members : List Diagram =
+    diagrams_of nodes c.args.list.now in
+    let f = subst (AreFirst 64 members) c.in-Of.is c.first_units.ensures in record {
+      fact = record {
+        none = λ _. sym c.conflicts.ensures.result_value ∙ c.if-conflicts.false;
         most = λ _. f.1;
         unitless = λ _. f.2;
-      }; marks_after = y.ensures.1 }
+      };
+      marks_after = c.conflicts.ensures.marks_after;
+    }
 
 pub returns-in-Nothing : goal.returns-in-Nothing
 unfolding nodes_of
 returns-in-Nothing c =
-    let y = c.conflicts in
-    let same = length-map c.args.list.now (diagram_at (nodes c.before.before.before.before.before.before.before.before.before.before.before.before.before.before.before.before.before.before.before.before.before.before)) in record { fact = record {
-        none = λ _. sym y.ensures.0 ∙ c.if-conflicts.false;
+    let nodes : List Node =
+    nodes_of (table_of c.args.vars.now c.args.lows.now c.args.highs.now c.args.heads.now c.args.links.now
+    c.args.count) in
+    let members : List Diagram =
+    diagrams_of nodes c.args.list.now in
+    let same = length-map c.args.list.now (diagram_at nodes) in record {
+      fact = record {
+        none = λ _. sym c.conflicts.ensures.result_value ∙ c.if-conflicts.false;
         most = λ _. omega (arith, same);
-        unitless = λ _ k p. unitless-all (members c.before.before.before.before.before.before.before.before.before.before.before.before.before.before.before.before.before.before.before.before.before.before) (subst (AreFirst 64 (members c.before.before.before.before.before.before.before.before.before.before.before.before.before.before.before.before.before.before.before.before.before.before)) c.in-Nothing.is
+        unitless = λ _ k p. unitless-all members (subst (AreFirst 64 members) c.in-Nothing.is
             c.first_units.ensures) k (omega (arith, p, same));
-      }; marks_after = y.ensures.1 }
+      };
+      marks_after = c.conflicts.ensures.marks_after;
+    }
