@@ -1,11 +1,4 @@
-pub mod Arrays
-pub mod Clipping
 pub mod First
-pub mod Lending
-pub mod Lent
 pub mod Lists
-pub mod Loading
-pub mod Opened
-pub mod Saving
 pub mod Setting
 pub mod Whole
