@@ -14,86 +14,31 @@ use Rattle.thin.specs.declared.StepDown.{StepDown}
 use Rattle.thin.specs.declared.StepDown.TheVariants.{Told, One, Over}
 use Rattle.thin.specs.Thin.{Given, StepSays, result_at}
 use Rattle.thin.proofs.Descending.{GoingDown, going-first, going-told, going-one, step_room, going-over, top_within}
-use Rattle.thin.proofs.go_down.Reads as reads
-use Rattle.thin.proofs.go_down.Lts as lts
-use Rattle.thin.proofs.go_down.Tie as tie
+use Rattle.words.specs.declared.Literals as words
+use Rattle.operate.specs.declared.step.Kind.{Kind}
+use Rattle.thin.specs.Thin.{SomeGiven}
 use Rattle.thin.proofs.go_down.Goals as goal
 
--- where a step begins
-module _ (l : lts.At-loop tie.the-claims reads.Pre reads.Post goal.the-invariant-loop-node goal.the-decreases-loop-node) where
-  abbrev s : tie.Start invariant-loop decreases-loop
-  s = l.before.before.before.before.before.before.before
+-- at a step from f, in every table with these columns
+module _ (op : Operation) (shared : ℕ) (vars lows highs : List ℕ) (first second : ℕ) (xs told sides : List ℕ) (f g depth : ℕ)
+    (come : (heads links : List ℕ) (count : ℕ) → Given op shared (table_of vars lows highs heads links count) first second
+    → GoingDown op shared (table_of vars lows highs heads links count) first second xs told sides f g depth)
+    (y : StepDown) (step : (heads links : List ℕ) (count : ℕ) → Given op shared (table_of vars lows highs heads links count) f g
+    → StepSays op shared (table_of vars lows highs heads links count) (top vars f g)
+    (result_at op (table_of vars lows highs heads links count) f g) y) where
+  -- what the code's step says
+  says : (r : StepDown) → y ≡ r → (heads links : List ℕ) (count : ℕ) → Given op shared (table_of vars lows highs heads links count) first second
+      → StepSays op shared (table_of vars lows highs heads links count) (top vars f g)
+      (result_at op (table_of vars lows highs heads links count) f g) r
+  says r e heads links count H =
+      subst (StepSays op shared (table_of vars lows highs heads links count) (top vars f g)
+      (result_at op (table_of vars lows highs heads links count) f g)) e (step heads links count (come heads links count H).given)
 
-  -- a table with the columns
-  abbrev t : List ℕ → List ℕ → ℕ → Table
-  t = table_of s.args.vars.now s.args.lows.now s.args.highs.now
-
-  abbrev T : Table
-  T = t s.pre.0.heads s.pre.0.links s.pre.0.count
-
-  abbrev op : Operation
-  op = operation_of s.args.kind s.args.by
-
-  abbrev shared : ℕ
-  shared = s.args.by.positive
-
-  abbrev first : ℕ
-  first = s.args.first.0
-
-  abbrev second : ℕ
-  second = s.args.second.0
-
-  abbrev f : ℕ
-  f = l.loop-node.f.0
-
-  abbrev g : ℕ
-  g = l.loop-node.g.0
-
-  -- how far the way has come
-  abbrev Come : Table → Type 0
-  Come u = GoingDown op shared u first second l.loop-node.xs l.loop-node.told l.loop-node.sides f g l.loop-node.depth
-
-  -- what a step from here says
-  abbrev Says : Table → StepDown → Type 0
-  Says u = StepSays op shared u (top s.args.vars.now f g) (result_at op u f g)
-
-  come : Come T
-  come = l.loop-node.invariant.3 s.pre.0.heads s.pre.0.links s.pre.0.count s.pre.0.given
-
--- what the code's step says
-says : (c : lts.After-step_down tie.the-claims reads.Pre reads.Post goal.the-invariant-loop-node goal.the-decreases-loop-node) (r : StepDown) → c.step_down.result ≡ r → (heads links : List ℕ) (count : ℕ)
-    → let l = c.before in Come c.before (t c.before heads links count) → Says c.before (t c.before heads links count) r
-says c r e heads links count W =
-    let l = c.before in subst (Says c.before (t c.before heads links count)) e (c.step_down.ensures heads links count W.given)
-
--- a step that is written
-module _ (c : lts.After-x tie.the-claims reads.Pre reads.Post goal.the-invariant-loop-node goal.the-decreases-loop-node) where
-  abbrev lx : tie.At-loop invariant-loop decreases-loop
-  lx = c.before.before.before
-
-  abbrev x : ℕ
-  x = c.in-Over.x
-
-  abbrev k : NodeNo
-  k = c.in-Over.k
-
-  abbrev side : ℕ
-  side = c.in-Over.side
-
-  abbrev a : NodeNo
-  a = c.in-Over.a
-
-  abbrev b : NodeNo
-  b = c.in-Over.b
-
-  over-says : (heads links : List ℕ) (count : ℕ) → Come lx (t lx heads links count) → Says lx (t lx heads links count) (Over x k side a b)
-  over-says = says c.before.before (Over x k side a b) c.in-Over.is
-
-  room : lx.loop.depth < 64
-  room =
-      step_room (op lx) (shared lx) (T lx) (first lx) (second lx) lx.loop.xs lx.loop.told lx.loop.sides (f lx) (g lx)
-      lx.loop.depth (come lx) x k side a b
-      (over-says (T lx).heads (T lx).links (T lx).count (come lx))
+  -- a step that is written has room
+  room : SomeGiven op shared vars lows highs first second → (x : ℕ) (k : NodeNo) (side : ℕ) (a b : NodeNo) → y ≡ Over x k side a b → depth < 64
+  room R x k side a b e =
+      step_room op shared (table_of vars lows highs R.heads R.links R.count) first second xs told sides f g depth
+      (come R.heads R.links R.count R.given) x k side a b (says (Over x k side a b) e R.heads R.links R.count R.given)
 
 pub loop-node-init : goal.loop-node-init
 loop-node-init c =
@@ -101,99 +46,91 @@ loop-node-init c =
 
 pub step_down-requires : goal.step_down-requires
 step_down-requires c =
-    record { heads = (T c).heads; links = (T c).links; count = (T c).count; given = (come c).given }
-
-pub shape_of-xs-in-Told : goal.shape_of-xs-in-Told
-shape_of-xs-in-Told c =
-    c.loop-node.invariant.0 ∙ sym (s c.before.before.before.before).pre.1
-
-pub shape_of-told-in-Told : goal.shape_of-told-in-Told
-shape_of-told-in-Told c =
-    c.loop-node.invariant.1 ∙ sym (s c.before.before.before.before).pre.2
-
-pub shape_of-sides-in-Told : goal.shape_of-sides-in-Told
-shape_of-sides-in-Told c =
-    c.loop-node.invariant.2 ∙ sym (s c.before.before.before.before).pre.3
+    let r = c.requires.0 in
+    record { heads = r.heads; links = r.links; count = r.count; given = (c.loop-node.invariant.3 r.heads r.links r.count r.given).given }
 
 pub returns-in-Told : goal.returns-in-Told
 returns-in-Told c =
-    let k = c.node-1.given in
+    let a = c.args in
+    let l = c.loop-node in
     λ heads links count H.
-    let W = c.loop-node.invariant.3 heads links count H in
-    going-told (op c.before.before.before.before) (shared c.before.before.before.before) (t c.before.before.before.before heads links count) (first c.before.before.before.before) (second c.before.before.before.before) c.loop-node.xs c.loop-node.told c.loop-node.sides (f c.before.before.before.before) (g c.before.before.before.before)
-    c.loop-node.depth W k.0.0
-    (says c.before.before.before (Told k.0.0) k.1 heads links count W)
+    let h = says (operation_of a.kind a.by) a.by.positive a.vars.now a.lows.now a.highs.now a.first.0 a.second.0 l.xs l.told l.sides l.f.0 l.g.0 l.depth l.invariant.3 c.step_down.result c.step_down.ensures (Told c.in-Told.node) c.in-Told.is heads links count in
+    going-told (operation_of a.kind a.by) a.by.positive (table_of a.vars.now a.lows.now a.highs.now heads links count) a.first.0 a.second.0 l.xs l.told l.sides l.f.0 l.g.0 l.depth
+    (l.invariant.3 heads links count H) c.in-Told.node (h H)
 
 pub loop-node-smaller-in-One : goal.loop-node-smaller-in-One
 loop-node-smaller-in-One c =
-    let p = c.a-1.given in
-    let h = says c.before.before.before (One p.0.0 p.0.1.0) p.1 (T c.before.before.before.before).heads (T c.before.before.before.before).links (T c.before.before.before.before).count (come c.before.before.before.before) in
-    omega (arith, h.1, top_within (op c.before.before.before.before) (shared c.before.before.before.before) (T c.before.before.before.before) p.0.0.0 p.0.1.0.0 h.0)
+    let a = c.args in
+    let l = c.loop-node in
+    let r = c.requires.0 in
+    let h = (says (operation_of a.kind a.by) a.by.positive a.vars.now a.lows.now a.highs.now a.first.0 a.second.0 l.xs l.told l.sides l.f.0 l.g.0 l.depth l.invariant.3 c.step_down.result c.step_down.ensures (One c.in-One.a c.in-One.b) c.in-One.is r.heads r.links r.count r.given) in
+    omega (arith, h.1, top_within (operation_of a.kind a.by) a.by.positive (table_of a.vars.now a.lows.now a.highs.now r.heads r.links r.count) c.in-One.a.0 c.in-One.b.0 h.0)
 
 pub loop-node-preserved-in-One : goal.loop-node-preserved-in-One
 loop-node-preserved-in-One c =
-    let p = c.a-1.given in (
-      c.loop-node.invariant.0,
-      c.loop-node.invariant.1,
-      c.loop-node.invariant.2,
+    let a = c.args in
+    let l = c.loop-node in (
+      l.invariant.0,
+      l.invariant.1,
+      l.invariant.2,
       λ heads links count H.
-          let W = c.loop-node.invariant.3 heads links count H in
-          going-one (op c.before.before.before.before) (shared c.before.before.before.before) (t c.before.before.before.before heads links count) (first c.before.before.before.before) (second c.before.before.before.before) c.loop-node.xs c.loop-node.told c.loop-node.sides (f c.before.before.before.before)
-          (g c.before.before.before.before) c.loop-node.depth W p.0.0 p.0.1.0
-          (says c.before.before.before (One p.0.0 p.0.1.0) p.1 heads links count W),
+          going-one (operation_of a.kind a.by) a.by.positive (table_of a.vars.now a.lows.now a.highs.now heads links count) a.first.0 a.second.0 l.xs l.told l.sides l.f.0 l.g.0 l.depth
+          (l.invariant.3 heads links count H) c.in-One.a c.in-One.b
+          (says (operation_of a.kind a.by) a.by.positive a.vars.now a.lows.now a.highs.now a.first.0 a.second.0 l.xs l.told l.sides l.f.0 l.g.0 l.depth l.invariant.3 c.step_down.result c.step_down.ensures (One c.in-One.a c.in-One.b) c.in-One.is heads links count H),
     )
 
 pub bounds-xs-depth : goal.bounds-xs-depth
 bounds-xs-depth c =
-    omega (arith, room c.before, (lx c.before).loop.inv.0)
+    let a = c.args in
+    let l = c.loop-node in
+    omega (arith, room (operation_of a.kind a.by) a.by.positive a.vars.now a.lows.now a.highs.now a.first.0 a.second.0 l.xs l.told l.sides l.f.0 l.g.0 l.depth l.invariant.3 c.step_down.result c.step_down.ensures c.requires.0 c.in-Over.x c.in-Over.k c.in-Over.side c.in-Over.a c.in-Over.b c.in-Over.is, l.invariant.0)
 
 pub offset_bounds-told-depth : goal.offset_bounds-told-depth
 offset_bounds-told-depth c =
-    omega (arith, room c.before)
+    let a = c.args in
+    let l = c.loop-node in
+    omega (arith, room (operation_of a.kind a.by) a.by.positive a.vars.now a.lows.now a.highs.now a.first.0 a.second.0 l.xs l.told l.sides l.f.0 l.g.0 l.depth l.invariant.3 c.step_down.result c.step_down.ensures c.requires.0 c.in-Over.x c.in-Over.k c.in-Over.side c.in-Over.a c.in-Over.b c.in-Over.is)
 
 pub bounds-told-depth : goal.bounds-told-depth
 bounds-told-depth c =
-    omega (arith, room c.before, (lx c.before).loop.inv.1)
+    let a = c.args in
+    let l = c.loop-node in
+    omega (arith, room (operation_of a.kind a.by) a.by.positive a.vars.now a.lows.now a.highs.now a.first.0 a.second.0 l.xs l.told l.sides l.f.0 l.g.0 l.depth l.invariant.3 c.step_down.result c.step_down.ensures c.requires.0 c.in-Over.x c.in-Over.k c.in-Over.side c.in-Over.a c.in-Over.b c.in-Over.is, l.invariant.1)
 
 pub bounds-sides-depth : goal.bounds-sides-depth
 bounds-sides-depth c =
-    omega (arith, room c.before, (lx c.before).loop.inv.2)
+    let a = c.args in
+    let l = c.loop-node in
+    omega (arith, room (operation_of a.kind a.by) a.by.positive a.vars.now a.lows.now a.highs.now a.first.0 a.second.0 l.xs l.told l.sides l.f.0 l.g.0 l.depth l.invariant.3 c.step_down.result c.step_down.ensures c.requires.0 c.in-Over.x c.in-Over.k c.in-Over.side c.in-Over.a c.in-Over.b c.in-Over.is, l.invariant.2)
 
 pub overflow_add-depth : goal.overflow_add-depth
 overflow_add-depth c =
-    omega (arith, room c.before)
+    let a = c.args in
+    let l = c.loop-node in
+    omega (arith, room (operation_of a.kind a.by) a.by.positive a.vars.now a.lows.now a.highs.now a.first.0 a.second.0 l.xs l.told l.sides l.f.0 l.g.0 l.depth l.invariant.3 c.step_down.result c.step_down.ensures c.requires.0 c.in-Over.x c.in-Over.k c.in-Over.side c.in-Over.a c.in-Over.b c.in-Over.is)
 
 pub loop-node-smaller : goal.loop-node-smaller
 loop-node-smaller c =
-    let l = lx c.before in
-    let h = over-says c.before (T l).heads (T l).links (T l).count (come l) in
-    omega (arith, h.1, h.3, top_within (op l) (shared l) (T l) (a c.before).0 (b c.before).0 h.0)
+    let a = c.args in
+    let l = c.loop-node in
+    let r = c.requires.0 in
+    let h = (says (operation_of a.kind a.by) a.by.positive a.vars.now a.lows.now a.highs.now a.first.0 a.second.0 l.xs l.told l.sides l.f.0 l.g.0 l.depth l.invariant.3 c.step_down.result c.step_down.ensures (Over c.in-Over.x c.in-Over.k c.in-Over.side c.in-Over.a c.in-Over.b) c.in-Over.is r.heads r.links r.count r.given) in
+    omega (arith, h.1, h.3, top_within (operation_of a.kind a.by) a.by.positive (table_of a.vars.now a.lows.now a.highs.now r.heads r.links r.count) c.in-Over.a.0 c.in-Over.b.0 h.0)
 
 pub loop-node-preserved : goal.loop-node-preserved
 loop-node-preserved c =
-    let l = lx c.before in (
-      length-set l.loop.xs l.loop.depth _ ∙ l.loop.inv.0,
-      length-set l.loop.told l.loop.depth _ ∙ l.loop.inv.1,
-      length-set l.loop.sides l.loop.depth _ ∙ l.loop.inv.2,
+    let a = c.args in
+    let l = c.loop-node in
+    let room = room (operation_of a.kind a.by) a.by.positive a.vars.now a.lows.now a.highs.now a.first.0 a.second.0 l.xs l.told l.sides l.f.0 l.g.0 l.depth l.invariant.3 c.step_down.result c.step_down.ensures c.requires.0 c.in-Over.x c.in-Over.k c.in-Over.side c.in-Over.a c.in-Over.b c.in-Over.is in (
+      length-set l.xs l.depth _ ∙ l.invariant.0,
+      length-set l.told l.depth _ ∙ l.invariant.1,
+      length-set l.sides l.depth _ ∙ l.invariant.2,
       λ heads links count H.
-          let W = l.loop.inv.3 heads links count H in
-          going-over (op l) (shared l) (t l heads links count) (first l) (second l) l.loop.xs l.loop.told l.loop.sides (f l)
-          (g l) l.loop.depth W (x c.before) (k c.before) (side c.before) (a c.before) (b c.before)
-          (over-says c.before heads links count W) (omega (arith, room c.before, l.loop.inv.0)) (omega (arith, room c.before, l.loop.inv.1))
-          (omega (arith, room c.before, l.loop.inv.2)),
+          going-over (operation_of a.kind a.by) a.by.positive (table_of a.vars.now a.lows.now a.highs.now heads links count) a.first.0 a.second.0 l.xs l.told l.sides l.f.0 l.g.0 l.depth
+          (l.invariant.3 heads links count H) c.in-Over.x c.in-Over.k c.in-Over.side c.in-Over.a c.in-Over.b
+          (says (operation_of a.kind a.by) a.by.positive a.vars.now a.lows.now a.highs.now a.first.0 a.second.0 l.xs l.told l.sides l.f.0 l.g.0 l.depth l.invariant.3 c.step_down.result c.step_down.ensures (Over c.in-Over.x c.in-Over.k c.in-Over.side c.in-Over.a c.in-Over.b) c.in-Over.is heads links count H)
+          (omega (arith, room, l.invariant.0)) (omega (arith, room, l.invariant.1)) (omega (arith, room, l.invariant.2)),
     )
-
-pub shape_of-xs-in-Wide : goal.shape_of-xs-in-Wide
-shape_of-xs-in-Wide c =
-    c.loop-node.invariant.0 ∙ sym (s c.before.before.before).pre.1
-
-pub shape_of-told-in-Wide : goal.shape_of-told-in-Wide
-shape_of-told-in-Wide c =
-    c.loop-node.invariant.1 ∙ sym (s c.before.before.before).pre.2
-
-pub shape_of-sides-in-Wide : goal.shape_of-sides-in-Wide
-shape_of-sides-in-Wide c =
-    c.loop-node.invariant.2 ∙ sym (s c.before.before.before).pre.3
 
 pub returns-in-Wide : goal.returns-in-Wide
 returns-in-Wide c =

@@ -11,91 +11,85 @@ use Rattle.operate.proofs.Steps.{sides-ask}
 use Rattle.operate.proofs.Results.{columns-hold}
 use Rattle.thin.specs.Thin.{settled_of}
 use Rattle.thin.proofs.Stepping.{given-leveled, settled-two, step-told, pair_left, sides-left, sides-say}
-use Rattle.thin.proofs.step_down.Reads as reads
-use Rattle.thin.proofs.step_down.Lts as lts
-use Rattle.thin.proofs.step_down.Tie as tie
+use Rattle.words.specs.declared.Literals as words
+use Rattle.operate.specs.declared.step.Kind.{Kind}
+use Rattle.operate.specs.declared.step.Sides.{Sides}
+use Rattle.operate.specs.declared.step.Descent.{Descent}
 use Rattle.thin.proofs.step_down.Goals as goal
 
--- where the function starts
-module _ (c : lts.Start tie.the-claims reads.Pre reads.Post) where
-  -- a table with the columns
-  abbrev t : List ℕ → List ℕ → ℕ → Table
-  t = table_of c.args.vars.now c.args.lows.now c.args.highs.now
-
-  abbrev T : Table
-  T = t c.requires.heads c.requires.links c.requires.count
-
-  abbrev op : Operation
-  op = operation_of c.args.kind c.args.by
-
-  abbrev f : ℕ
-  f = c.args.f.0
-
-  abbrev g : ℕ
-  g = c.args.g.0
-
--- where nothing is told
-nothing : (c : lts.After-enum_told tie.the-claims reads.Pre reads.Post) → settled_of c.args.vars.now c.args.kind c.args.by (f c.before.before.before.before.before.before) (g c.before.before.before.before.before.before) ≡ Nothing
-nothing c =
-    sym c.settled.ensures ∙ c.in-Nothing.is
-
 -- the step that the code takes
-stepped : (c : lts.After-descent_of tie.the-claims reads.Pre reads.Post) → descent_of (op c.before.before.before.before.before.before.before.before.before) (sides_of (T c.before.before.before.before.before.before.before.before.before).vars (T c.before.before.before.before.before.before.before.before.before).lows (T c.before.before.before.before.before.before.before.before.before).highs (f c.before.before.before.before.before.before.before.before.before) (g c.before.before.before.before.before.before.before.before.before)) ≡ c.descent_of.result
-stepped c =
-    sym (c.descent_of.ensures ∙ ap (λ (o : Operation). descent_of o c.sides_of-s.result)
-    c.operation_of.ensures
-    ∙ ap (descent_of (op c.before.before.before.before.before.before.before.before.before)) c.sides_of-s.ensures)
+stepped : (kind : Kind) (by : words.Literals) (vars lows highs : List ℕ) (f g : ℕ) (o : Operation) (s : Sides) (r : Descent) → r ≡ descent_of o s
+    → o ≡ operation_of kind by → s ≡ sides_of vars lows highs f g → descent_of (operation_of kind by) (sides_of vars lows highs f g) ≡ r
+stepped kind by vars lows highs f g o s r e is sides =
+    sym (e ∙ ap (λ (o : Operation). descent_of o s) is ∙ ap (descent_of (operation_of kind by)) sides)
 
 pub settled-requires : goal.settled-requires
 settled-requires c =
-    given-leveled (op c.before.before.before) c.args.by.positive (T c.before.before.before) (f c.before.before.before) (g c.before.before.before) c.requires.given
+    let a = c.args in
+    let r = c.requires in
+    let op : Operation = operation_of a.kind a.by in
+    let T : Table = table_of a.vars.now a.lows.now a.highs.now r.heads r.links r.count in
+    given-leveled op a.by.positive T a.f.0 a.g.0 r.given
 
 pub sides_of-s-requires : goal.sides_of-s-requires
 sides_of-s-requires c =
-    columns-hold (op c.before.before.before.before.before.before) (T c.before.before.before.before.before.before) (f c.before.before.before.before.before.before) (g c.before.before.before.before.before.before) c.requires.given.operands
+    let a = c.args in
+    let r = c.requires in
+    let op : Operation = operation_of a.kind a.by in
+    let T : Table = table_of a.vars.now a.lows.now a.highs.now r.heads r.links r.count in
+    columns-hold op T a.f.0 a.g.0 r.given.operands
 
 pub descent_of-requires : goal.descent_of-requires
 descent_of-requires c =
+    let a = c.args in
+    let r = c.requires in
+    let op : Operation = operation_of a.kind a.by in
+    let T : Table = table_of a.vars.now a.lows.now a.highs.now r.heads r.links r.count in
     let y = c.sides_of-s in
-    sides-ask (op c.before.before.before.before.before.before.before.before) (T c.before.before.before.before.before.before.before.before) (f c.before.before.before.before.before.before.before.before) (g c.before.before.before.before.before.before.before.before) c.requires.given.operands
-    (settled-two c.args.kind c.args.by (T c.before.before.before.before.before.before.before.before) (f c.before.before.before.before.before.before.before.before) (g c.before.before.before.before.before.before.before.before) c.requires.given (nothing c.before.before)) y.result
-    y.ensures
+    sides-ask op T a.f.0 a.g.0 r.given.operands
+    (settled-two a.kind a.by T a.f.0 a.g.0 r.given (sym c.settled.ensures ∙ c.in-Nothing.is)) y.result y.ensures
 
 pub one_side-requires : goal.one_side-requires
 one_side-requires c =
-    let s = c.s-1.given in
+    let a = c.args in
+    let r = c.requires in
+    let op : Operation = operation_of a.kind a.by in
+    let T : Table = table_of a.vars.now a.lows.now a.highs.now r.heads r.links r.count in
     record {
-      lows = (T c.before.before.before.before.before.before.before.before.before.before.before.before).lows;
-      highs = (T c.before.before.before.before.before.before.before.before.before.before.before.before).highs;
-      heads = (T c.before.before.before.before.before.before.before.before.before.before.before.before).heads;
-      links = (T c.before.before.before.before.before.before.before.before.before.before.before.before).links;
-      count = (T c.before.before.before.before.before.before.before.before.before.before.before.before).count;
+      lows = T.lows;
+      highs = T.highs;
+      heads = T.heads;
+      links = T.links;
+      count = T.count;
       given =
-          sides-left c.args.kind c.args.by (T c.before.before.before.before.before.before.before.before.before.before.before.before) (f c.before.before.before.before.before.before.before.before.before.before.before.before) (g c.before.before.before.before.before.before.before.before.before.before.before.before) c.requires.given (nothing c.before.before.before.before.before.before) s.0.0
-          (stepped c.before.before.before ∙ s.1);
+          sides-left a.kind a.by T a.f.0 a.g.0 r.given (sym c.settled.ensures ∙ c.in-Nothing.is) c.in-Both.s
+          (stepped a.kind a.by a.vars.now a.lows.now a.highs.now a.f.0 a.g.0 _ _ _ c.descent_of.ensures c.operation_of.ensures
+          c.sides_of-s.ensures ∙ c.in-Both.is);
     }
 
 pub returns-in-At : goal.returns-in-At
 returns-in-At c =
-    let k = c.k-1.given in
+    let a = c.args in
     λ heads links count H.
-    step-told c.args.kind c.args.by (t c.before.before.before.before.before.before.before heads links count) (f c.before.before.before.before.before.before.before) (g c.before.before.before.before.before.before.before) H k.0.0
-    (sym c.settled.ensures ∙ k.1)
+    step-told a.kind a.by (table_of a.vars.now a.lows.now a.highs.now heads links count) a.f.0 a.g.0 H c.in-At.k
+    (sym c.settled.ensures ∙ c.in-At.is)
 
 pub returns-in-One : goal.returns-in-One
 returns-in-One c =
-    let a = c.a-1.given in
+    let a = c.args in
     λ heads links count H.
-    pair_left c.args.kind c.args.by (t c.before.before.before.before.before.before.before.before.before.before.before.before heads links count) (f c.before.before.before.before.before.before.before.before.before.before.before.before) (g c.before.before.before.before.before.before.before.before.before.before.before.before) H (nothing c.before.before.before.before.before.before) a.0.0
-    a.0.1.0
-    (stepped c.before.before.before ∙ a.1)
+    pair_left a.kind a.by (table_of a.vars.now a.lows.now a.highs.now heads links count) a.f.0 a.g.0 H
+    (sym c.settled.ensures ∙ c.in-Nothing.is) c.in-One.a c.in-One.b
+    (stepped a.kind a.by a.vars.now a.lows.now a.highs.now a.f.0 a.g.0 _ _ _ c.descent_of.ensures c.operation_of.ensures
+    c.sides_of-s.ensures ∙ c.in-One.is)
 
 pub returns-in-Both : goal.returns-in-Both
 returns-in-Both c =
-    let s = c.s-1.given in
-    let n = nothing c.before.before.before.before.before.before.before in
-    let e = stepped c.before.before.before.before ∙ s.1 in
+    let a = c.args in
+    let n = sym c.settled.ensures ∙ c.in-Nothing.is in
+    let e = stepped a.kind a.by a.vars.now a.lows.now a.highs.now a.f.0 a.g.0 _ _ _ c.descent_of.ensures c.operation_of.ensures
+    c.sides_of-s.ensures ∙ c.in-Both.is in
     λ heads links count H.
-    sides-say c.args.kind c.args.by (t c.before.before.before.before.before.before.before.before.before.before.before.before.before heads links count) (f c.before.before.before.before.before.before.before.before.before.before.before.before.before) (g c.before.before.before.before.before.before.before.before.before.before.before.before.before) H n s.0.0 e c.one_side.result
-    (c.one_side.ensures (T c.before.before.before.before.before.before.before.before.before.before.before.before.before).lows (T c.before.before.before.before.before.before.before.before.before.before.before.before.before).highs heads links count
-    (sides-left c.args.kind c.args.by (t c.before.before.before.before.before.before.before.before.before.before.before.before.before heads links count) (f c.before.before.before.before.before.before.before.before.before.before.before.before.before) (g c.before.before.before.before.before.before.before.before.before.before.before.before.before) H n s.0.0 e))
+    let t : Table = table_of a.vars.now a.lows.now a.highs.now heads links count in
+    sides-say a.kind a.by t a.f.0 a.g.0 H n c.in-Both.s e c.one_side.result
+    (c.one_side.ensures a.lows.now a.highs.now heads links count (sides-left a.kind a.by t a.f.0 a.g.0 H n c.in-Both.s e))
