@@ -6,6 +6,5 @@ use Rattle.judge.proofs.cube.by_node.Goals as goal
 pub returns-then-cube : goal.returns-then-cube
 returns-then-cube c =
     let a = c.args in
-    let y = c.literals_of-cube in
-    cube-by-node a.vars.now a.lows.now a.highs.now a.count c.requires.0 a.n.0 c.requires.1 y.result.literals
-    (y.ensures c.if-cube.true)
+    cube-by-node a.vars.now a.lows.now a.highs.now a.count c.requires.0 a.n.0 c.requires.1 c.literals_of-cube.result.literals
+    (c.literals_of-cube.ensures c.if-cube.true)
