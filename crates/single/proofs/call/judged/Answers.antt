@@ -14,23 +14,23 @@ order_fits-requires c =
 
 pub returns-then-not-order_fits : goal.returns-then-not-order_fits
 returns-then-not-order_fits c =
-    called-26 _ _ _ _ _ c.requires.0 (sym c.order_fits.ensures ∙ not-true _ c.if-not-order_fits.true-raw)
+    called-26 _ _ _ _ _ c.requires.0 (sym c.order_fits.ensures ∙ c.if-not-order_fits.true)
 
 pub returns-then-count-f : goal.returns-then-count-f
 returns-then-count-f c =
     called-13-first _ _ _ _ _ c.requires.0
-    (sym c.order_fits.ensures ∙ not-false _ c.if-not-order_fits.false-raw) c.if-count-f.true
+    (sym c.order_fits.ensures ∙ c.if-not-order_fits.false) c.if-count-f.true
 
 pub returns-then-count-g : goal.returns-then-count-g
 returns-then-count-g c =
     called-13-second _ _ _ _ _ c.requires.0
-    (sym c.order_fits.ensures ∙ not-false _ c.if-not-order_fits.false-raw) c.if-count-f.false
+    (sym c.order_fits.ensures ∙ c.if-not-order_fits.false) c.if-count-f.false
     c.if-count-g.true
 
 pub returns-then-number-ne0 : goal.returns-then-number-ne0
 returns-then-number-ne0 c =
     called-second _ _ _ _ _ c.requires.0
-    (sym c.order_fits.ensures ∙ not-false _ c.if-not-order_fits.false-raw) c.if-count-f.false
+    (sym c.order_fits.ensures ∙ c.if-not-order_fits.false) c.if-count-f.false
     c.if-count-g.false _ c.operand_refusal-number.ensures c.if-number-ne0.true
 
 pub made-requires : goal.made-requires
@@ -38,7 +38,7 @@ made-requires c =
     record {
       operands = record {
         good = lent-good _ _ _ _ _ _ c.requires.0
-            (sym c.order_fits.ensures ∙ not-false _ c.if-not-order_fits.false-raw);
+            (sym c.order_fits.ensures ∙ c.if-not-order_fits.false);
         f-inside = c.if-count-f.false;
         g_inside = c.if-count-g.false;
         allowed = allowed-by _ _ c.requires.3
@@ -50,6 +50,6 @@ made-requires c =
 pub returns : goal.returns
 returns c =
     c.made.ensures ∙ called-made _ _ _ _ _ c.requires.0
-    (sym c.order_fits.ensures ∙ not-false _ c.if-not-order_fits.false-raw)
+    (sym c.order_fits.ensures ∙ c.if-not-order_fits.false)
     c.if-count-f.false c.if-count-g.false
     (sym c.operand_refusal-number.ensures ∙ c.if-number-ne0.false)

@@ -17,26 +17,6 @@ judged-requires c = (
   c.requires.1,
 )
 
-pub shape_of-vars : goal.shape_of-vars
-shape_of-vars c =
-    c.judged.auto.vars
-
-pub shape_of-lows : goal.shape_of-lows
-shape_of-lows c =
-    c.judged.auto.lows.0
-
-pub shape_of-highs : goal.shape_of-highs
-shape_of-highs c =
-    c.judged.auto.lows.1.0
-
-pub shape_of-heads : goal.shape_of-heads
-shape_of-heads c =
-    c.judged.auto.lows.1.1.0
-
-pub shape_of-links : goal.shape_of-links
-shape_of-links c =
-    c.judged.auto.lows.1.1.1.0
-
 pub returns : goal.returns
 returns c =
     c.judged.ensures

@@ -1,4 +1,4 @@
--- `made` leaves the at_least_lem diagram placed and counts what it excludes, or leaves the table as lent and says 23. Assumes nothing.
+-- `made` leaves the at_least-p diagram placed and counts what it excludes, or leaves the table as lent and says 23. Assumes nothing.
 use Rattle.meaning.specs.Sets.{at_least}
 use Rattle.meaning.specs.Words.{in_word}
 use Rattle.table.specs.Indexed.{Table, table_of, lists_of, Outcome, outcome_of}
@@ -6,49 +6,31 @@ use Rattle.table.proofs.Outcomes.{Grown, Longer}
 use Rattle.single.proofs.Calls.{done-is, full_is}
 use Rattle.single.proofs.Counts.{least-grown, least-longer, least-23, least-done}
 use borrow.Author.Rules.{rules}
-use Rattle.single.proofs.least.made.Reads as reads
-use Rattle.single.proofs.least.made.Lts as lts
-use Rattle.single.proofs.least.made.Tie as tie
 use Rattle.single.proofs.least.made.Goals as goal
-
-module _ (s : lts.Start tie.the-claims reads.Pre reads.Post) where
-  abbrev before : Table
-  before = table_of s.args.vars.now s.args.lows.now s.args.highs.now s.args.heads.now s.args.links.now
-      s.args.count
-
--- what making the diagram leaves
-module _ (c : lts.After-at_least tie.the-claims reads.Pre reads.Post) where
-  abbrev begun : tie.Start
-  begun = c.before.before.before.before.before.before.before.before.before.before.before
-
-  abbrev outcome : Outcome
-  outcome = let x = c.at_least_lem.new in outcome_of x.0 x.1.0 x.1.1.0 x.1.1.1.0 x.1.1.1.1.0 c.at_least_lem.result
-
-  bigger : Grown (before begun) (at_least 64 (in_word begun.args.set) begun.args.k) outcome
-  bigger = least-grown (before begun) begun.pre begun.args.set begun.args.k outcome c.at_least_lem.ensures
-
-  further : Longer (before begun) outcome.table
-  further = least-longer (before begun) begun.pre begun.args.set begun.args.k outcome c.at_least_lem.ensures
-
--- what dropping it leaves
-module _ (c : lts.After-drop_to tie.the-claims reads.Pre reads.Post) where
-  abbrev dropped : Table
-  dropped =
-      let x = c.drop_to.new in
-      table_of x.0 x.1.0 x.1.1.0 x.1.1.1.0 x.1.1.1.1.0 c.args.count
 
 pub drop_to-requires : goal.drop_to-requires
 drop_to-requires c =
-    ((bigger c.before.before.before.before.before.before.before.before.before.before.before.before.before.before.before.before).good, (begun c.before.before.before.before.before.before.before.before.before.before.before.before.before.before.before.before).pre.least, (bigger c.before.before.before.before.before.before.before.before.before.before.before.before.before.before.before.before).more)
+    let a = c.args in
+    let t : Table = table_of a.vars.now a.lows.now a.highs.now a.heads.now a.links.now a.count in
+    let y = c.at_least-p in
+    let o : Outcome = outcome_of y.new.vars y.new.lows y.new.highs y.new.heads y.new.links y.result in
+    let W = least-grown t c.requires a.set a.k o y.ensures in (W.good, c.requires.least, W.more)
 
 pub returns-then-p : goal.returns-then-p
 returns-then-p c =
-    least-23 (before c.before.before.before.before.before.before.before.before.before.before.before.before.before.before.before.before.before.before.before.before.before.before.before.before.before.before.before.before.before.before.before.before.before.before.before.before.before.before.before) (outcome c.before.before.before.before.before.before.before.before.before.before.before.before.before.before.before.before.before.before.before.before.before.before.before.before.before.before.before.before).table (dropped c.before.before.before.before.before.before.before.before.before.before.before) c.requires (further c.before.before.before.before.before.before.before.before.before.before.before.before.before.before.before.before.before.before.before.before.before.before.before.before.before.before.before.before) c.drop_to.ensures c.args.set c.args.k _
-    (full_is (lists_of (before c.before.before.before.before.before.before.before.before.before.before.before.before.before.before.before.before.before.before.before.before.before.before.before.before.before.before.before.before.before.before.before.before.before.before.before.before.before.before.before)) c.args.count (outcome c.before.before.before.before.before.before.before.before.before.before.before.before.before.before.before.before.before.before.before.before.before.before.before.before.before.before.before.before) _ c.at_least_lem.ensures c.if-p.true) _
-    c.refused.ensures
+    let a = c.args in
+    let t : Table = table_of a.vars.now a.lows.now a.highs.now a.heads.now a.links.now a.count in
+    let y = c.at_least-p in
+    let o : Outcome = outcome_of y.new.vars y.new.lows y.new.highs y.new.heads y.new.links y.result in
+    let z = c.drop_to.new in
+    least-23 t o.table (table_of z.vars z.lows z.highs z.heads z.links a.count) c.requires (least-longer t c.requires a.set a.k o y.ensures)
+    c.drop_to.ensures a.set a.k _ (full_is (lists_of t) a.count o _ y.ensures c.if-p.true) _ c.refused.ensures
 
 pub returns : goal.returns
 returns c =
-    least-done c.args.set c.args.k _ _ _ _
-    (done-is (lists_of (before c.before.before.before.before.before.before.before.before.before.before.before.before.before.before.before.before.before.before.before.before.before.before.before.before)) c.args.count (outcome c.before.before.before.before.before.before.before.before.before.before.before.before.before) _ c.at_least_lem.ensures (further c.before.before.before.before.before.before.before.before.before.before.before.before.before) c.if-p.false) _
-    c.excluded_by-e.ensures
+    let a = c.args in
+    let t : Table = table_of a.vars.now a.lows.now a.highs.now a.heads.now a.links.now a.count in
+    let y = c.at_least-p in
+    let o : Outcome = outcome_of y.new.vars y.new.lows y.new.highs y.new.heads y.new.links y.result in
+    least-done a.set a.k _ _ _ _
+    (done-is (lists_of t) a.count o _ y.ensures (least-longer t c.requires a.set a.k o y.ensures) c.if-p.false) _ c.excluded_by-e.ensures
