@@ -8,7 +8,7 @@ use Rattle.clause.proofs.make.Given as goal
 
 abbrev pub invariant-loop-v : goal.invariant-loop-v
 invariant-loop-v l =
-    Making (table_of l.initial.vars l.initial.lows l.initial.highs l.initial.heads l.initial.links l.count) (record { l.positive = l.positive; l.negative = l.negative }) l.v
+    Making (table_of l.initial.vars l.initial.lows l.initial.highs l.initial.heads l.initial.links l.count) (record { positive = l.positive; negative = l.negative }) l.v
     (outcome_of l.vars l.lows l.highs l.heads l.links l.made)
 
 abbrev pub decreases-loop-v : goal.decreases-loop-v

@@ -13,7 +13,7 @@ use Rattle.clause.proofs.search.find.Given as goal
 
 abbrev pub invariant-loop-v : goal.invariant-loop-v
 invariant-loop-v l =
-    Making (table_of l.vars l.lows l.highs l.heads l.links l.count) (record { l.positive = l.positive; l.negative = l.negative }) l.v
+    Making (table_of l.vars l.lows l.highs l.heads l.links l.count) (record { positive = l.positive; negative = l.negative }) l.v
     (stay (table_of l.vars l.lows l.highs l.heads l.links l.count) l.node.0)
 
 abbrev pub decreases-loop-v : goal.decreases-loop-v
