@@ -24,119 +24,23 @@ use Rattle.judge.proofs.Turning.{judged_as, Turning, turning-none, turns-done, t
 use Rattle.turn_memo.specs.Turns.{Passes}
 use Rattle.turn_memo.proofs.Known.{Known, known-none, known-stored, passes-least}
 use Rattle.pr_lines.proofs.Equal.{Turned, turned-higher, turned-judged, turning-passed}
-use Rattle.pr_lines.proofs.turns.Reads as reads
-use Rattle.pr_lines.proofs.turns.Lts as lts
-use Rattle.pr_lines.proofs.turns.Tie as tie
 use Rattle.pr_lines.proofs.turns.Goals as goal
-
-module _ (s : lts.Start tie.the-claims reads.Pre reads.Post goal.the-invariant-loop-i goal.the-decreases-loop-i tie.handed_clauses) where
-  abbrev before : Table
-  before = table_of s.args.vars.now s.args.lows.now s.args.highs.now s.args.heads.now s.args.links.now
-      s.args.count
-
-  abbrev good : Good before
-  good = s.requires.fact.0.good
-
-  abbrev line : List ℕ → Line
-  line ks = pr_turns 64 (in_word s.args.witness.positive) (in_word s.args.witness.negative)
-      (diagrams_of (nodes_of before) s.args.first.now) (diagrams_of (nodes_of before) ks)
-
--- what a turn leaves
-module _ (a : lts.After-turn_known tie.the-claims reads.Pre reads.Post goal.the-invariant-loop-i goal.the-decreases-loop-i tie.handed_clauses) where
-  abbrev start : tie.Start invariant-loop decreases-loop
-  start = a.before.before.before.before.before.before.before.before.before.before.before.before.before.before.before.before.before.before.before.before.before.before.before.before.before.before.before
-
-  abbrev reached : tie.At-loop invariant-loop decreases-loop
-  reached = a.before.before.before.before.before.before.before.before.before.before.before.before.before
-
-  abbrev table₁ : Table
-  table₁ = table_of a.turn_known-t.new.vars a.turn_known-t.new.lows.0 a.turn_known-t.new.lows.1.0 a.turn_known-t.new.lows.1.1.0
-      a.turn_known-t.new.lows.1.1.1.0 a.turn_known-t.result.count
-
-  abbrev member : ℕ
-  member = get_or start.args.members.now reached.loop.i 0
-
-  said : LineSays (before start) (line start (member ∷ [])) 64 a.turn_known-t.result table₁
-  said =
-      subst (λ (t : Table). LineSays t (pr_turns 64 (in_word start.args.witness.positive) (in_word start.args.witness.negative)
-      (diagrams_of (nodes_of t) start.args.first.now) (diagram_at (nodes_of t) member ∷ [])) 64 a.turn_known-t.result table₁)
-      reached.loop.inv.0 a.turn_known-t.ensures.fact_3
-
-  more : reached.loop.i < length start.args.members.now
-  more = a.loop-i-test.taken
-
-  unmarked-again : a.turn_known-t.new.lows.1.1.1.1.1.0 ≡ unmarked (length start.args.vars.now)
-  unmarked-again = a.turn_known-t.ensures.marks_after ∙ ap (λ (t : Table). unmarked (length t.vars)) reached.loop.inv.0
-
--- what dropping its nodes leaves
-module _ (d : lts.After-drop_to tie.the-claims reads.Pre reads.Post goal.the-invariant-loop-i goal.the-decreases-loop-i tie.handed_clauses) where
-  abbrev turned : tie.After-turn-known invariant-loop decreases-loop
-  turned = d.before.before.before.before.before.before.before.before.before.before.before.before.before.before.before.before.before.before.before.before.before.before.before.before.before.before
-
-  abbrev begun : tie.Start invariant-loop decreases-loop
-  begun = d.before.before.before.before.before.before.before.before.before.before.before.before.before.before.before.before.before.before.before.before.before.before.before.before.before.before.before.before.before.before.before.before.before.before.before.before.before.before.before.before.before.before.before.before.before.before.before.before.before.before.before.before.before
-
-  as_before : table_of d.drop_to.new.vars d.drop_to.new.lows.0 d.drop_to.new.lows.1.0 d.drop_to.new.lows.1.1.0
-      d.drop_to.new.lows.1.1.1.0 begun.args.count ≡ before begun
-  as_before = d.drop_to.ensures ∙ undone (before begun) (good begun) (table₁ turned)
-      (extended-longer (before begun) (table₁ turned) (good begun) (said turned).extended)
-
--- the members passed, and what is known of the turns judged
-module _ (c : lts.After-pass_stored tie.the-claims reads.Pre reads.Post goal.the-invariant-loop-i goal.the-decreases-loop-i tie.handed_clauses) where
-  abbrev last : tie.After-turn-known invariant-loop decreases-loop
-  last = c.before.before.before.before.before.before.before.before.before.before.before.before.before.before.before.before.before.before.before.before.before.before.before.before.before.before.before.before.before.before.before.before.before.before.before.before.before.before.before.before.before.before.before.before
-
-  abbrev judged₁ : List ℕ
-  judged₁ = c.store.new.turns
-
-  abbrev Equal : ℕ → ℕ → ℕ → Type 0
-  Equal = Turned (before (start last)) (start last).args.first.now (start last).args.witness.positive
-      (start last).args.witness.negative
-
-  passes : Passes (start last).args.members.now judged₁ ((reached last).loop.i + 1)
-      ((reached last).loop.rounds + last.turn-known.result.rounds) c.pass_stored-next.result.place c.pass_stored-next.result.rounds
-  passes = c.pass_stored-next.ensures
-
-  conflicted : last.turn-known.result.shown ≡ true
-  conflicted = sym (not-not last.turn-known.result.shown) ∙ ap not c.if-not-t.false
-
-  known : Known judged₁ (Equal (max (reached last).loop.peak last.turn-known.result.peak))
-  known =
-      known-stored (reached last).loop.judged judged₁ (Equal (reached last).loop.peak)
-      (Equal (max (reached last).loop.peak last.turn-known.result.peak)) (member last) last.turn-known.result.rounds
-      (reached last).loop.inv.6
-      (turned-higher (before (start last)) (start last).args.first.now (start last).args.witness.positive
-      (start last).args.witness.negative (reached last).loop.peak (max (reached last).loop.peak last.turn-known.result.peak)
-      (omega arith))
-      (turned-judged (before (start last)) (start last).args.first.now (start last).args.witness.positive
-      (start last).args.witness.negative (good (start last)) (reached last).loop.peak (member last) last.turn-known.result (table₁ last)
-      (said last) c.if-t.false conflicted)
-      (said last).most c.store.ensures
-
-  turning : Turning (before (start last)) (start last).args.first.now (start last).args.members.now
-      (start last).args.witness.positive (start last).args.witness.negative c.pass_stored-next.result.place
-      c.pass_stored-next.result.rounds (max (reached last).loop.peak last.turn-known.result.peak)
-  turning =
-      turning-passed (before (start last)) (start last).args.first.now (start last).args.witness.positive
-      (start last).args.witness.negative (good (start last)) (start last).args.members.now judged₁ ((reached last).loop.i + 1)
-      ((reached last).loop.rounds + last.turn-known.result.rounds) c.pass_stored-next.result.place c.pass_stored-next.result.rounds
-      (max (reached last).loop.peak last.turn-known.result.peak) known
-      (turns-on (before (start last)) (start last).args.first.now (start last).args.members.now (start last).args.witness.positive
-      (start last).args.witness.negative (good (start last)) (reached last).loop.i (reached last).loop.rounds (reached last).loop.peak
-      (reached last).loop.inv.1 (more last) last.turn-known.result (table₁ last) (said last) c.if-t.false conflicted)
-      passes
 
 pub loop-i-init : goal.loop-i-init
 loop-i-init c =
-    (
+    let before : Table =
+    table_of c.args.vars.now c.args.lows.now c.args.highs.now c.args.heads.now c.args.links.now
+    c.args.count in
+    let good : Good before =
+    c.requires.fact.0.good in (
       refl,
-      turning-none (before c.before.before.before.before.before.before.before.before.before.before.before.before.before) c.args.first.now c.args.members.now
-          c.args.witness.positive c.args.witness.negative (good c.before.before.before.before.before.before.before.before.before.before.before.before.before),
+      turning-none before c.args.first.now c.args.members.now
+          c.args.witness.positive c.args.witness.negative good,
       c.requires.fact.1,
       refl,
       refl,
       refl,
-      known-none 4096 (Turned (before c.before.before.before.before.before.before.before.before.before.before.before.before.before) c.args.first.now c.args.witness.positive c.args.witness.negative c.args.count),
+      known-none 4096 (Turned before c.args.first.now c.args.witness.positive c.args.witness.negative c.args.count),
       length-replicate {A = ℕ} 4096 0,
     )
 
@@ -146,23 +50,30 @@ bounds-memberwords-i c =
 
 pub turn_known-t-requires : goal.turn_known-t-requires
 turn_known-t-requires c =
-    let w = c.loop-i in
-    let more = c.loop-i-test.true in record { fact = (
-        again-ready (before c.before.before.before.before.before.before.before.before.before.before.before.before.before.before.before.before.before.before.before.before.before.before.before.before.before.before) (table_of w.vars w.lows w.highs w.heads w.links c.args.count) c.args.first.now
-            c.args.memo.now w.memo w.inv.0 w.inv.3 c.requires.fact.0,
-        w.inv.2 ∙ sym (ap (λ (t : Table). unmarked (length t.vars)) w.inv.0),
-        w.inv.4 ∙ c.requires.fact.2,
-        c.requires.fact.3 w.i more,
+    let before : Table =
+    table_of c.args.vars.now c.args.lows.now c.args.highs.now c.args.heads.now c.args.links.now
+    c.args.count in
+    let more : c.loop-i.i < length c.args.members.now =
+    c.loop-i-test.true in
+    let more = c.loop-i-test.true in record {
+      fact = (
+        again-ready before (table_of c.loop-i.vars c.loop-i.lows c.loop-i.highs c.loop-i.heads c.loop-i.links c.args.count) c.args.first.now
+            c.args.memo.now c.loop-i.memo c.loop-i.invariant.0 c.loop-i.invariant.3 c.requires.fact.0,
+        c.loop-i.invariant.2 ∙ sym (ap (λ (t : Table). unmarked (length t.vars)) c.loop-i.invariant.0),
+        c.loop-i.invariant.4 ∙ c.requires.fact.2,
+        c.requires.fact.3 c.loop-i.i more,
         c.requires.fact.5,
-      ); fact_2 = (
-        worded-again (before c.before.before.before.before.before.before.before.before.before.before.before.before.before.before.before.before.before.before.before.before.before.before.before.before.before.before) (table_of w.vars w.lows w.highs w.heads w.links c.args.count) c.args.first.now
-            c.args.firstwords.now (get_or c.args.members.now w.i 0) (get_or c.args.memberwords.now w.i 0) w.inv.0
-            (member-worded (before c.before.before.before.before.before.before.before.before.before.before.before.before.before.before.before.before.before.before.before.before.before.before.before.before.before.before) c.args.members.now c.args.memberwords.now c.args.first.now c.args.firstwords.now
-            w.i more c.requires.fact_2.1 c.requires.fact_2.2 c.requires.fact_2.3),
-        w.inv.5 ∙ c.requires.fact_2.4,
-        looked-again (before c.before.before.before.before.before.before.before.before.before.before.before.before.before.before.before.before.before.before.before.before.before.before.before.before.before.before) (table_of w.vars w.lows w.highs w.heads w.links c.args.count) w.inv.0
+      );
+      fact_2 = (
+        worded-again before (table_of c.loop-i.vars c.loop-i.lows c.loop-i.highs c.loop-i.heads c.loop-i.links c.args.count) c.args.first.now
+            c.args.firstwords.now (get_or c.args.members.now c.loop-i.i 0) (get_or c.args.memberwords.now c.loop-i.i 0) c.loop-i.invariant.0
+            (member-worded before c.args.members.now c.args.memberwords.now c.args.first.now c.args.firstwords.now
+            c.loop-i.i more c.requires.fact_2.1 c.requires.fact_2.2 c.requires.fact_2.3),
+        c.loop-i.invariant.5 ∙ c.requires.fact_2.4,
+        looked-again before (table_of c.loop-i.vars c.loop-i.lows c.loop-i.highs c.loop-i.heads c.loop-i.links c.args.count) c.loop-i.invariant.0
             c.args.first.now c.args.looked c.requires.fact_2.5,
-      ) }
+      );
+    }
 
 pub shape_of-vars-then-t : goal.shape_of-vars-then-t
 shape_of-vars-then-t c =
@@ -170,53 +81,110 @@ shape_of-vars-then-t c =
 
 pub shape_of-lows-then-t : goal.shape_of-lows-then-t
 shape_of-lows-then-t c =
-    c.turn_known-t.auto.lows.0 ∙ ap (λ (t : Table). length t.lows) c.loop-i.invariant.0
+    c.turn_known-t.auto.lows ∙ ap (λ (t : Table). length t.lows) c.loop-i.invariant.0
 
 pub shape_of-highs-then-t : goal.shape_of-highs-then-t
 shape_of-highs-then-t c =
-    c.turn_known-t.auto.lows.1.0 ∙ ap (λ (t : Table). length t.highs) c.loop-i.invariant.0
+    c.turn_known-t.auto.highs ∙ ap (λ (t : Table). length t.highs) c.loop-i.invariant.0
 
 pub shape_of-heads-then-t : goal.shape_of-heads-then-t
 shape_of-heads-then-t c =
-    c.turn_known-t.auto.lows.1.1.0 ∙ ap (λ (t : Table). length t.heads) c.loop-i.invariant.0
+    c.turn_known-t.auto.heads ∙ ap (λ (t : Table). length t.heads) c.loop-i.invariant.0
 
 pub shape_of-links-then-t : goal.shape_of-links-then-t
 shape_of-links-then-t c =
-    c.turn_known-t.auto.lows.1.1.1.0 ∙ ap (λ (t : Table). length t.links) c.loop-i.invariant.0
+    c.turn_known-t.auto.links ∙ ap (λ (t : Table). length t.links) c.loop-i.invariant.0
 
 pub shape_of-memo-then-t : goal.shape_of-memo-then-t
 shape_of-memo-then-t c =
-    c.turn_known-t.auto.lows.1.1.1.1.0 ∙ c.loop-i.invariant.3
+    c.turn_known-t.auto.memo ∙ c.loop-i.invariant.3
 
 pub shape_of-marks-then-t : goal.shape_of-marks-then-t
 shape_of-marks-then-t c =
-    c.turn_known-t.auto.lows.1.1.1.1.1.0 ∙ ap length
+    c.turn_known-t.auto.marks ∙ ap length
     (c.loop-i.invariant.2 ∙ sym c.requires.fact.1)
 
 pub shape_of-second-then-t : goal.shape_of-second-then-t
 shape_of-second-then-t c =
-    c.turn_known-t.auto.lows.1.1.1.1.1.1.1.1.0 ∙ c.loop-i.invariant.4
+    c.turn_known-t.auto.second ∙ c.loop-i.invariant.4
 
 pub shape_of-secondwords-then-t : goal.shape_of-secondwords-then-t
 shape_of-secondwords-then-t c =
-    c.turn_known-t.auto.lows.1.1.1.1.1.1.1.1.1.0 ∙ c.loop-i.invariant.5
+    c.turn_known-t.auto.secondwords ∙ c.loop-i.invariant.5
 
 pub returns-then-t : goal.returns-then-t
 returns-then-t c =
-    let s = start c.before.before.before.before.before.before.before.before.before.before.before.before.before.before.before.before.before.before.before.before in
-    let w = (reached c.before.before.before.before.before.before.before.before.before.before.before.before.before.before.before.before.before.before.before.before).loop in record { fact_3 = subst (λ (m : ℕ). LineSays (before s) (line s s.args.members.now) (64 * length s.args.members.now)
-          (judged_as true false 0 c.turn_known-t.result.count m) (table₁ c.before.before.before.before.before.before.before.before.before.before.before.before.before.before.before.before.before.before.before.before)) (sym c.greater-peak.ensures)
-          (turns-full (before s) s.args.first.now s.args.members.now s.args.witness.positive s.args.witness.negative
-          (good s) w.i w.rounds w.peak w.inv.1 (more c.before.before.before.before.before.before.before.before.before.before.before.before.before.before.before.before.before.before.before.before) c.turn_known-t.result (table₁ c.before.before.before.before.before.before.before.before.before.before.before.before.before.before.before.before.before.before.before.before) (said c.before.before.before.before.before.before.before.before.before.before.before.before.before.before.before.before.before.before.before.before) c.if-t.true
-          c.turn_known-t.result.count); marks_after = unmarked-again c.before.before.before.before.before.before.before.before.before.before.before.before.before.before.before.before.before.before.before.before }
+    let before : Table =
+    table_of c.args.vars.now c.args.lows.now c.args.highs.now c.args.heads.now c.args.links.now
+    c.args.count in
+    let good : Good before =
+    c.requires.fact.0.good in
+    let line : List ℕ → Line =
+    λ ks. pr_turns 64 (in_word c.args.witness.positive) (in_word c.args.witness.negative)
+    (diagrams_of (nodes_of before) c.args.first.now) (diagrams_of (nodes_of before) ks) in
+    let table₁ : Table =
+    table_of c.turn_known-t.new.vars c.turn_known-t.new.lows c.turn_known-t.new.highs c.turn_known-t.new.heads
+    c.turn_known-t.new.links c.turn_known-t.result.count in
+    let member : ℕ =
+    get_or c.args.members.now c.loop-i.i 0 in
+    let said : LineSays before (line (member ∷ [])) 64 c.turn_known-t.result table₁ =
+    subst (λ (t : Table). LineSays t (pr_turns 64 (in_word c.args.witness.positive) (in_word c.args.witness.negative)
+    (diagrams_of (nodes_of t) c.args.first.now) (diagram_at (nodes_of t) member ∷ [])) 64 c.turn_known-t.result table₁)
+    c.loop-i.invariant.0 c.turn_known-t.ensures.fact_3 in
+    let more : c.loop-i.i < length c.args.members.now =
+    c.loop-i-test.true in
+    let unmarked-again : c.turn_known-t.new.marks ≡ unmarked (length c.args.vars.now) =
+    c.turn_known-t.ensures.marks_after ∙ ap (λ (t : Table). unmarked (length t.vars)) c.loop-i.invariant.0 in
+    record {
+      fact_3 = subst (λ (m : ℕ). LineSays before (line c.args.members.now) (64 * length c.args.members.now)
+          (judged_as true false 0 c.turn_known-t.result.count m) table₁) (sym c.greater-peak.ensures)
+          (turns-full before c.args.first.now c.args.members.now c.args.witness.positive c.args.witness.negative
+          good c.loop-i.i c.loop-i.rounds c.loop-i.peak c.loop-i.invariant.1 more c.turn_known-t.result table₁ said c.if-t.true
+          c.turn_known-t.result.count);
+      marks_after = unmarked-again;
+    }
 
 pub drop_to-requires : goal.drop_to-requires
 drop_to-requires c =
-    ((said c.before.before.before.before.before.before.before.before.before.before.before.before.before.before.before.before.before.before.before.before.before.before.before.before.before).extended.good, omega (arith, (good (start c.before.before.before.before.before.before.before.before.before.before.before.before.before.before.before.before.before.before.before.before.before.before.before.before.before)).least, (said c.before.before.before.before.before.before.before.before.before.before.before.before.before.before.before.before.before.before.before.before.before.before.before.before.before).extended.more), omega (arith, (said c.before.before.before.before.before.before.before.before.before.before.before.before.before.before.before.before.before.before.before.before.before.before.before.before.before).extended.more))
+    let before : Table =
+    table_of c.args.vars.now c.args.lows.now c.args.highs.now c.args.heads.now c.args.links.now
+    c.args.count in
+    let good : Good before =
+    c.requires.fact.0.good in
+    let line : List ℕ → Line =
+    λ ks. pr_turns 64 (in_word c.args.witness.positive) (in_word c.args.witness.negative)
+    (diagrams_of (nodes_of before) c.args.first.now) (diagrams_of (nodes_of before) ks) in
+    let table₁ : Table =
+    table_of c.turn_known-t.new.vars c.turn_known-t.new.lows c.turn_known-t.new.highs c.turn_known-t.new.heads
+    c.turn_known-t.new.links c.turn_known-t.result.count in
+    let member : ℕ =
+    get_or c.args.members.now c.loop-i.i 0 in
+    let said : LineSays before (line (member ∷ [])) 64 c.turn_known-t.result table₁ =
+    subst (λ (t : Table). LineSays t (pr_turns 64 (in_word c.args.witness.positive) (in_word c.args.witness.negative)
+    (diagrams_of (nodes_of t) c.args.first.now) (diagram_at (nodes_of t) member ∷ [])) 64 c.turn_known-t.result table₁)
+    c.loop-i.invariant.0 c.turn_known-t.ensures.fact_3 in
+    (said.extended.good, omega (arith, good.least, said.extended.more), omega (arith, said.extended.more))
 
 pub overflow_add-rounds : goal.overflow_add-rounds
 overflow_add-rounds c =
-    omega (arith, (said c.before.before.before.before.before.before.before.before.before.before.before.before.before.before.before.before.before.before.before.before.before.before.before.before.before.before.before.before.before.before.before.before.before.before.before.before.before).most, (reached c.before.before.before.before.before.before.before.before.before.before.before.before.before.before.before.before.before.before.before.before.before.before.before.before.before.before.before.before.before.before.before.before.before.before.before.before.before).loop.inv.1.most, more c.before.before.before.before.before.before.before.before.before.before.before.before.before.before.before.before.before.before.before.before.before.before.before.before.before.before.before.before.before.before.before.before.before.before.before.before.before, (start c.before.before.before.before.before.before.before.before.before.before.before.before.before.before.before.before.before.before.before.before.before.before.before.before.before.before.before.before.before.before.before.before.before.before.before.before.before).pre.0.4)
+    let before : Table =
+    table_of c.args.vars.now c.args.lows.now c.args.highs.now c.args.heads.now c.args.links.now
+    c.args.count in
+    let line : List ℕ → Line =
+    λ ks. pr_turns 64 (in_word c.args.witness.positive) (in_word c.args.witness.negative)
+    (diagrams_of (nodes_of before) c.args.first.now) (diagrams_of (nodes_of before) ks) in
+    let table₁ : Table =
+    table_of c.turn_known-t.new.vars c.turn_known-t.new.lows c.turn_known-t.new.highs c.turn_known-t.new.heads
+    c.turn_known-t.new.links c.turn_known-t.result.count in
+    let member : ℕ =
+    get_or c.args.members.now c.loop-i.i 0 in
+    let said : LineSays before (line (member ∷ [])) 64 c.turn_known-t.result table₁ =
+    subst (λ (t : Table). LineSays t (pr_turns 64 (in_word c.args.witness.positive) (in_word c.args.witness.negative)
+    (diagrams_of (nodes_of t) c.args.first.now) (diagram_at (nodes_of t) member ∷ [])) 64 c.turn_known-t.result table₁)
+    c.loop-i.invariant.0 c.turn_known-t.ensures.fact_3 in
+    let more : c.loop-i.i < length c.args.members.now =
+    c.loop-i-test.true in
+    omega (arith, said.most, c.loop-i.invariant.1.most, more, c.requires.fact.4)
 
 pub shape_of-vars-then-not-t : goal.shape_of-vars-then-not-t
 shape_of-vars-then-not-t c =
@@ -225,54 +193,79 @@ shape_of-vars-then-not-t c =
 
 pub shape_of-lows-then-not-t : goal.shape_of-lows-then-not-t
 shape_of-lows-then-not-t c =
-    c.drop_to.auto.lows.0 ∙ c.turn_known-t.auto.lows.0
+    c.drop_to.auto.lows ∙ c.turn_known-t.auto.lows
     ∙ ap (λ (t : Table). length t.lows) c.loop-i.invariant.0
 
 pub shape_of-highs-then-not-t : goal.shape_of-highs-then-not-t
 shape_of-highs-then-not-t c =
-    c.drop_to.auto.lows.1.0 ∙ c.turn_known-t.auto.lows.1.0
+    c.drop_to.auto.highs ∙ c.turn_known-t.auto.highs
     ∙ ap (λ (t : Table). length t.highs) c.loop-i.invariant.0
 
 pub shape_of-heads-then-not-t : goal.shape_of-heads-then-not-t
 shape_of-heads-then-not-t c =
-    c.drop_to.auto.lows.1.1.0 ∙ c.turn_known-t.auto.lows.1.1.0
+    c.drop_to.auto.heads ∙ c.turn_known-t.auto.heads
     ∙ ap (λ (t : Table). length t.heads) c.loop-i.invariant.0
 
 pub shape_of-links-then-not-t : goal.shape_of-links-then-not-t
 shape_of-links-then-not-t c =
-    c.drop_to.auto.lows.1.1.1.0 ∙ c.turn_known-t.auto.lows.1.1.1.0
+    c.drop_to.auto.links ∙ c.turn_known-t.auto.links
     ∙ ap (λ (t : Table). length t.links) c.loop-i.invariant.0
 
 pub shape_of-memo-then-not-t : goal.shape_of-memo-then-not-t
 shape_of-memo-then-not-t c =
-    c.turn_known-t.auto.lows.1.1.1.1.0 ∙ c.loop-i.invariant.3
+    c.turn_known-t.auto.memo ∙ c.loop-i.invariant.3
 
 pub shape_of-marks-then-not-t : goal.shape_of-marks-then-not-t
 shape_of-marks-then-not-t c =
-    c.turn_known-t.auto.lows.1.1.1.1.1.0 ∙ ap length
+    c.turn_known-t.auto.marks ∙ ap length
     (c.loop-i.invariant.2 ∙ sym c.requires.fact.1)
 
 pub shape_of-second-then-not-t : goal.shape_of-second-then-not-t
 shape_of-second-then-not-t c =
-    c.turn_known-t.auto.lows.1.1.1.1.1.1.1.1.0 ∙ c.loop-i.invariant.4
+    c.turn_known-t.auto.second ∙ c.loop-i.invariant.4
 
 pub shape_of-secondwords-then-not-t : goal.shape_of-secondwords-then-not-t
 shape_of-secondwords-then-not-t c =
-    c.turn_known-t.auto.lows.1.1.1.1.1.1.1.1.1.0 ∙ c.loop-i.invariant.5
+    c.turn_known-t.auto.secondwords ∙ c.loop-i.invariant.5
 
 pub returns-then-not-t : goal.returns-then-not-t
 returns-then-not-t c =
-    let a = turned c.before.before.before.before.before.before.before.before.before.before.before.before.before in
-    let s = start a in
-    let w = (reached a).loop in record { fact_3 = subst (λ (t : Table). LineSays (before s) (line s s.args.members.now) (64 * length s.args.members.now)
-          (judged_as false false (w.rounds + a.turn-known.result.rounds) s.args.count c.greater-peak.result) t)
-          (sym (as_before c.before.before.before.before.before.before.before.before.before.before.before.before.before))
-          (subst (λ (m : ℕ). LineSays (before s) (line s s.args.members.now) (64 * length s.args.members.now)
-          (judged_as false false (w.rounds + a.turn-known.result.rounds) s.args.count m) (before s))
+    let before : Table =
+    table_of c.args.vars.now c.args.lows.now c.args.highs.now c.args.heads.now c.args.links.now
+    c.args.count in
+    let good : Good before =
+    c.requires.fact.0.good in
+    let line : List ℕ → Line =
+    λ ks. pr_turns 64 (in_word c.args.witness.positive) (in_word c.args.witness.negative)
+    (diagrams_of (nodes_of before) c.args.first.now) (diagrams_of (nodes_of before) ks) in
+    let table₁ : Table =
+    table_of c.turn_known-t.new.vars c.turn_known-t.new.lows c.turn_known-t.new.highs c.turn_known-t.new.heads
+    c.turn_known-t.new.links c.turn_known-t.result.count in
+    let member : ℕ =
+    get_or c.args.members.now c.loop-i.i 0 in
+    let said : LineSays before (line (member ∷ [])) 64 c.turn_known-t.result table₁ =
+    subst (λ (t : Table). LineSays t (pr_turns 64 (in_word c.args.witness.positive) (in_word c.args.witness.negative)
+    (diagrams_of (nodes_of t) c.args.first.now) (diagram_at (nodes_of t) member ∷ [])) 64 c.turn_known-t.result table₁)
+    c.loop-i.invariant.0 c.turn_known-t.ensures.fact_3 in
+    let more : c.loop-i.i < length c.args.members.now =
+    c.loop-i-test.true in
+    let unmarked-again : c.turn_known-t.new.marks ≡ unmarked (length c.args.vars.now) =
+    c.turn_known-t.ensures.marks_after ∙ ap (λ (t : Table). unmarked (length t.vars)) c.loop-i.invariant.0 in
+    let as_before : table_of c.drop_to.new.vars c.drop_to.new.lows c.drop_to.new.highs c.drop_to.new.heads c.drop_to.new.links c.args.count ≡ before =
+    c.drop_to.ensures ∙ undone before good table₁
+    (extended-longer before table₁ good said.extended) in
+    record {
+      fact_3 = subst (λ (t : Table). LineSays before (line c.args.members.now) (64 * length c.args.members.now)
+          (judged_as false false (c.loop-i.rounds + c.turn_known-t.result.rounds) c.args.count c.greater-peak.result) t)
+          (sym as_before)
+          (subst (λ (m : ℕ). LineSays before (line c.args.members.now) (64 * length c.args.members.now)
+          (judged_as false false (c.loop-i.rounds + c.turn_known-t.result.rounds) c.args.count m) before)
           (sym c.greater-peak.ensures)
-          (turns-end (before s) s.args.first.now s.args.members.now s.args.witness.positive s.args.witness.negative
-          (good s) w.i w.rounds w.peak w.inv.1 (more a) a.turn-known.result (table₁ a) (said a)
-          c.if-t.false (sym (not-not a.turn-known.result.shown) ∙ ap not c.if-not-t.true))); marks_after = unmarked-again a }
+          (turns-end before c.args.first.now c.args.members.now c.args.witness.positive c.args.witness.negative
+          good c.loop-i.i c.loop-i.rounds c.loop-i.peak c.loop-i.invariant.1 more c.turn_known-t.result table₁ said
+          c.if-t.false (sym (not-not c.turn_known-t.result.shown) ∙ ap not c.if-not-t.true)));
+      marks_after = unmarked-again;
+    }
 
 pub slice_bounds-store-end : goal.slice_bounds-store-end
 slice_bounds-store-end c =
@@ -280,7 +273,22 @@ slice_bounds-store-end c =
 
 pub store-requires : goal.store-requires
 store-requires c =
-    (c.loop-i.invariant.7, (said c.before.before.before.before.before.before.before.before.before.before.before.before.before.before.before.before.before.before.before.before.before.before.before.before.before.before.before.before.before.before.before.before.before.before.before.before.before.before.before.before).most)
+    let before : Table =
+    table_of c.args.vars.now c.args.lows.now c.args.highs.now c.args.heads.now c.args.links.now
+    c.args.count in
+    let line : List ℕ → Line =
+    λ ks. pr_turns 64 (in_word c.args.witness.positive) (in_word c.args.witness.negative)
+    (diagrams_of (nodes_of before) c.args.first.now) (diagrams_of (nodes_of before) ks) in
+    let table₁ : Table =
+    table_of c.turn_known-t.new.vars c.turn_known-t.new.lows c.turn_known-t.new.highs c.turn_known-t.new.heads
+    c.turn_known-t.new.links c.turn_known-t.result.count in
+    let member : ℕ =
+    get_or c.args.members.now c.loop-i.i 0 in
+    let said : LineSays before (line (member ∷ [])) 64 c.turn_known-t.result table₁ =
+    subst (λ (t : Table). LineSays t (pr_turns 64 (in_word c.args.witness.positive) (in_word c.args.witness.negative)
+    (diagrams_of (nodes_of t) c.args.first.now) (diagram_at (nodes_of t) member ∷ [])) 64 c.turn_known-t.result table₁)
+    c.loop-i.invariant.0 c.turn_known-t.ensures.fact_3 in
+    (c.loop-i.invariant.7, said.most)
 
 pub slice_bounds-pass_stored-end : goal.slice_bounds-pass_stored-end
 slice_bounds-pass_stored-end c =
@@ -288,39 +296,112 @@ slice_bounds-pass_stored-end c =
 
 pub overflow_add-i : goal.overflow_add-i
 overflow_add-i c =
-    omega (arith, more c.before.before.before.before.before.before.before.before.before.before.before.before.before.before.before.before.before.before.before.before.before.before.before.before.before.before.before.before.before.before.before.before.before.before.before.before.before.before.before.before.before.before.before, (start c.before.before.before.before.before.before.before.before.before.before.before.before.before.before.before.before.before.before.before.before.before.before.before.before.before.before.before.before.before.before.before.before.before.before.before.before.before.before.before.before.before.before.before).pre.0.4)
+    let more : c.loop-i.i < length c.args.members.now =
+    c.loop-i-test.true in
+    omega (arith, more, c.requires.fact.4)
 
 pub pass_stored-next-requires : goal.pass_stored-next-requires
 pass_stored-next-requires c =
-    (
-      c.store.auto.turns ∙ (reached c.before.before.before.before.before.before.before.before.before.before.before.before.before.before.before.before.before.before.before.before.before.before.before.before.before.before.before.before.before.before.before.before.before.before.before.before.before.before.before.before.before.before.before).loop.inv.7,
-      (start c.before.before.before.before.before.before.before.before.before.before.before.before.before.before.before.before.before.before.before.before.before.before.before.before.before.before.before.before.before.before.before.before.before.before.before.before.before.before.before.before.before.before.before).pre.0.4,
-      omega (arith, (said c.before.before.before.before.before.before.before.before.before.before.before.before.before.before.before.before.before.before.before.before.before.before.before.before.before.before.before.before.before.before.before.before.before.before.before.before.before.before.before.before.before.before.before).most, (reached c.before.before.before.before.before.before.before.before.before.before.before.before.before.before.before.before.before.before.before.before.before.before.before.before.before.before.before.before.before.before.before.before.before.before.before.before.before.before.before.before.before.before.before).loop.inv.1.most),
+    let before : Table =
+    table_of c.args.vars.now c.args.lows.now c.args.highs.now c.args.heads.now c.args.links.now
+    c.args.count in
+    let line : List ℕ → Line =
+    λ ks. pr_turns 64 (in_word c.args.witness.positive) (in_word c.args.witness.negative)
+    (diagrams_of (nodes_of before) c.args.first.now) (diagrams_of (nodes_of before) ks) in
+    let table₁ : Table =
+    table_of c.turn_known-t.new.vars c.turn_known-t.new.lows c.turn_known-t.new.highs c.turn_known-t.new.heads
+    c.turn_known-t.new.links c.turn_known-t.result.count in
+    let member : ℕ =
+    get_or c.args.members.now c.loop-i.i 0 in
+    let said : LineSays before (line (member ∷ [])) 64 c.turn_known-t.result table₁ =
+    subst (λ (t : Table). LineSays t (pr_turns 64 (in_word c.args.witness.positive) (in_word c.args.witness.negative)
+    (diagrams_of (nodes_of t) c.args.first.now) (diagram_at (nodes_of t) member ∷ [])) 64 c.turn_known-t.result table₁)
+    c.loop-i.invariant.0 c.turn_known-t.ensures.fact_3 in (
+      c.store.auto.turns ∙ c.loop-i.invariant.7,
+      c.requires.fact.4,
+      omega (arith, said.most, c.loop-i.invariant.1.most),
     )
 
 pub loop-i-smaller : goal.loop-i-smaller
 loop-i-smaller c =
+    let more : c.loop-i.i < length c.args.members.now =
+    c.loop-i-test.true in
+    let judged₁ : List ℕ =
+    c.store.new.turns in
+    let passes : Passes c.args.members.now judged₁ (c.loop-i.i + 1) (c.loop-i.rounds + c.turn_known-t.result.rounds) c.pass_stored-next.result.place c.pass_stored-next.result.rounds =
+    c.pass_stored-next.ensures in
     omega (
       arith,
-      more c.before.before.before.before.before.before.before.before.before.before.before.before.before.before.before.before.before.before.before.before.before.before.before.before.before.before.before.before.before.before.before.before.before.before.before.before.before.before.before.before.before.before.before.before,
-      passes-least (start c.before.before.before.before.before.before.before.before.before.before.before.before.before.before.before.before.before.before.before.before.before.before.before.before.before.before.before.before.before.before.before.before.before.before.before.before.before.before.before.before.before.before.before.before).args.members.now (judged₁ c) ((reached c.before.before.before.before.before.before.before.before.before.before.before.before.before.before.before.before.before.before.before.before.before.before.before.before.before.before.before.before.before.before.before.before.before.before.before.before.before.before.before.before.before.before.before.before).loop.i + 1)
-          ((reached c.before.before.before.before.before.before.before.before.before.before.before.before.before.before.before.before.before.before.before.before.before.before.before.before.before.before.before.before.before.before.before.before.before.before.before.before.before.before.before.before.before.before.before.before).loop.rounds + c.turn_known-t.result.rounds) c.pass_stored-next.result.place c.pass_stored-next.result.rounds (passes c),
+      more,
+      passes-least c.args.members.now judged₁ (c.loop-i.i + 1)
+          (c.loop-i.rounds + c.turn_known-t.result.rounds) c.pass_stored-next.result.place c.pass_stored-next.result.rounds passes,
     )
 
 pub loop-i-preserved : goal.loop-i-preserved
 loop-i-preserved c =
-    let s = start c.before.before.before.before.before.before.before.before.before.before.before.before.before.before.before.before.before.before.before.before.before.before.before.before.before.before.before.before.before.before.before.before.before.before.before.before.before.before.before.before.before.before.before.before in
-    let w = (reached c.before.before.before.before.before.before.before.before.before.before.before.before.before.before.before.before.before.before.before.before.before.before.before.before.before.before.before.before.before.before.before.before.before.before.before.before.before.before.before.before.before.before.before.before).loop in
+    let before : Table =
+    table_of c.args.vars.now c.args.lows.now c.args.highs.now c.args.heads.now c.args.links.now
+    c.args.count in
+    let good : Good before =
+    c.requires.fact.0.good in
+    let line : List ℕ → Line =
+    λ ks. pr_turns 64 (in_word c.args.witness.positive) (in_word c.args.witness.negative)
+    (diagrams_of (nodes_of before) c.args.first.now) (diagrams_of (nodes_of before) ks) in
+    let table₁ : Table =
+    table_of c.turn_known-t.new.vars c.turn_known-t.new.lows c.turn_known-t.new.highs c.turn_known-t.new.heads
+    c.turn_known-t.new.links c.turn_known-t.result.count in
+    let member : ℕ =
+    get_or c.args.members.now c.loop-i.i 0 in
+    let said : LineSays before (line (member ∷ [])) 64 c.turn_known-t.result table₁ =
+    subst (λ (t : Table). LineSays t (pr_turns 64 (in_word c.args.witness.positive) (in_word c.args.witness.negative)
+    (diagrams_of (nodes_of t) c.args.first.now) (diagram_at (nodes_of t) member ∷ [])) 64 c.turn_known-t.result table₁)
+    c.loop-i.invariant.0 c.turn_known-t.ensures.fact_3 in
+    let more : c.loop-i.i < length c.args.members.now =
+    c.loop-i-test.true in
+    let unmarked-again : c.turn_known-t.new.marks ≡ unmarked (length c.args.vars.now) =
+    c.turn_known-t.ensures.marks_after ∙ ap (λ (t : Table). unmarked (length t.vars)) c.loop-i.invariant.0 in
+    let as_before : table_of c.drop_to.new.vars c.drop_to.new.lows c.drop_to.new.highs c.drop_to.new.heads c.drop_to.new.links c.args.count ≡ before =
+    c.drop_to.ensures ∙ undone before good table₁
+    (extended-longer before table₁ good said.extended) in
+    let judged₁ : List ℕ =
+    c.store.new.turns in
+    let Equal : ℕ → ℕ → ℕ → Type 0 =
+    Turned before c.args.first.now c.args.witness.positive
+    c.args.witness.negative in
+    let passes : Passes c.args.members.now judged₁ (c.loop-i.i + 1) (c.loop-i.rounds + c.turn_known-t.result.rounds) c.pass_stored-next.result.place c.pass_stored-next.result.rounds =
+    c.pass_stored-next.ensures in
+    let conflicted : c.turn_known-t.result.shown ≡ true =
+    sym (not-not c.turn_known-t.result.shown) ∙ ap not c.if-not-t.false in
+    let known : Known judged₁ (Equal (max c.loop-i.peak c.turn_known-t.result.peak)) =
+    known-stored c.loop-i.judged judged₁ (Equal c.loop-i.peak)
+    (Equal (max c.loop-i.peak c.turn_known-t.result.peak)) member c.turn_known-t.result.rounds
+    c.loop-i.invariant.6
+    (turned-higher before c.args.first.now c.args.witness.positive
+    c.args.witness.negative c.loop-i.peak (max c.loop-i.peak c.turn_known-t.result.peak)
+    (omega arith))
+    (turned-judged before c.args.first.now c.args.witness.positive
+    c.args.witness.negative good c.loop-i.peak member c.turn_known-t.result table₁
+    said c.if-t.false conflicted)
+    said.most c.store.ensures in
+    let turning : Turning before c.args.first.now c.args.members.now c.args.witness.positive c.args.witness.negative c.pass_stored-next.result.place c.pass_stored-next.result.rounds (max c.loop-i.peak c.turn_known-t.result.peak) =
+    turning-passed before c.args.first.now c.args.witness.positive
+    c.args.witness.negative good c.args.members.now judged₁ (c.loop-i.i + 1)
+    (c.loop-i.rounds + c.turn_known-t.result.rounds) c.pass_stored-next.result.place c.pass_stored-next.result.rounds
+    (max c.loop-i.peak c.turn_known-t.result.peak) known
+    (turns-on before c.args.first.now c.args.members.now c.args.witness.positive
+    c.args.witness.negative good c.loop-i.i c.loop-i.rounds c.loop-i.peak
+    c.loop-i.invariant.1 more c.turn_known-t.result table₁ said c.if-t.false conflicted)
+    passes in
     let g = sym c.greater-peak.ensures in (
-      as_before c.before.before.before.before.before.before.before.before.before.before.before.before.before.before.before.before.before.before,
-      subst (Turning (before s) s.args.first.now s.args.members.now s.args.witness.positive s.args.witness.negative
-          c.pass_stored-next.result.place c.pass_stored-next.result.rounds) g (turning c),
-      unmarked-again c.before.before.before.before.before.before.before.before.before.before.before.before.before.before.before.before.before.before.before.before.before.before.before.before.before.before.before.before.before.before.before.before.before.before.before.before.before.before.before.before.before.before.before.before,
-      c.turn_known-t.kept.1.1.1.1.1.0 ∙ w.inv.3,
-      c.turn_known-t.kept.1.1.1.1.1.1.1.1.1.0 ∙ w.inv.4,
-      c.turn_known-t.kept.1.1.1.1.1.1.1.1.1.1.0 ∙ w.inv.5,
-      subst (λ (m : ℕ). Known (judged₁ c) (Equal c m)) g (known c),
-      c.store.auto.turns ∙ w.inv.7,
+      as_before,
+      subst (Turning before c.args.first.now c.args.members.now c.args.witness.positive c.args.witness.negative
+          c.pass_stored-next.result.place c.pass_stored-next.result.rounds) g turning,
+      unmarked-again,
+      c.turn_known-t.auto.memo ∙ c.loop-i.invariant.3,
+      c.turn_known-t.auto.second ∙ c.loop-i.invariant.4,
+      c.turn_known-t.auto.secondwords ∙ c.loop-i.invariant.5,
+      subst (λ (m : ℕ). Known judged₁ (Equal m)) g known,
+      c.store.auto.turns ∙ c.loop-i.invariant.7,
     )
 
 pub shape_of-vars : goal.shape_of-vars
@@ -361,7 +442,18 @@ shape_of-secondwords c =
 
 pub returns : goal.returns
 returns c =
-    record { fact_3 = subst (λ (t : Table). LineSays (before c.before.before.before.before.before.before.before.before.before.before.before.before.before.before.before) (line c.before.before.before.before.before.before.before.before.before.before.before.before.before.before.before c.args.members.now) (64 * length c.args.members.now)
+    let before : Table =
+    table_of c.args.vars.now c.args.lows.now c.args.highs.now c.args.heads.now c.args.links.now
+    c.args.count in
+    let good : Good before =
+    c.requires.fact.0.good in
+    let line : List ℕ → Line =
+    λ ks. pr_turns 64 (in_word c.args.witness.positive) (in_word c.args.witness.negative)
+    (diagrams_of (nodes_of before) c.args.first.now) (diagrams_of (nodes_of before) ks) in
+    record {
+      fact_3 = subst (λ (t : Table). LineSays before (line c.args.members.now) (64 * length c.args.members.now)
           (judged_as false true c.loop-i.rounds c.args.count c.loop-i.peak) t) (sym c.loop-i.invariant.0)
-          (turns-done (before c.before.before.before.before.before.before.before.before.before.before.before.before.before.before.before) c.args.first.now c.args.members.now c.args.witness.positive c.args.witness.negative
-          (good c.before.before.before.before.before.before.before.before.before.before.before.before.before.before.before) c.loop-i.i c.loop-i.rounds c.loop-i.peak c.loop-i.invariant.1 (omega (arith, c.loop-i-test.false))); marks_after = c.loop-i.invariant.2 }
+          (turns-done before c.args.first.now c.args.members.now c.args.witness.positive c.args.witness.negative
+          good c.loop-i.i c.loop-i.rounds c.loop-i.peak c.loop-i.invariant.1 (omega (arith, c.loop-i-test.false)));
+      marks_after = c.loop-i.invariant.2;
+    }
