@@ -11,27 +11,7 @@ use Rattle.dimacs.specs.declared.Token.TheVariants.{Literal}
 use Rattle.dimacs.specs.Numbers.{token_of}
 use Rattle.dimacs.proofs.Tokens.{IsLiteral, literal-bounds}
 use Rattle.dimacs.proofs.OpenClause.{rest_of, rest-open, rest-closing, rest-wrong, rest-literal, literal-moves}
-use Rattle.dimacs.proofs.clauses.open_clause.Reads as reads
-use Rattle.dimacs.proofs.clauses.open_clause.Lts as lts
-use Rattle.dimacs.proofs.clauses.open_clause.Tie as tie
 use Rattle.dimacs.proofs.clauses.open_clause.Goals as goal
-
-literal : (a : lts.After-variable tie.the-claims reads.Pre reads.Post goal.the-invariant-loop-at goal.the-decreases-loop-at tie.handed_clauses)
-    → token_of a.args.variables
-    (slice a.loop-at.at a.past_class-end.result a.args.s.now)
-    ≡ Literal a.in-Literal.variable a.in-Literal.positive
-literal a = sym a.read_token.ensures ∙ a.in-Literal.is
-
-within : (a : lts.After-variable tie.the-claims reads.Pre reads.Post goal.the-invariant-loop-at goal.the-decreases-loop-at tie.handed_clauses)
-    → IsLiteral a.args.variables
-    (slice a.loop-at.at a.past_class-end.result a.args.s.now)
-    a.in-Literal.variable
-within a = literal-bounds _ _ _ _ (literal a)
-
--- The next token lies behind this one.
-moves : (a : lts.After-variable tie.the-claims reads.Pre reads.Post goal.the-invariant-loop-at goal.the-decreases-loop-at tie.handed_clauses) → a.loop-at.at < a.past_class-end.result
-moves a = literal-moves _ _ _ _ _ _ a.loop-at-test.true a.past_class-end.ensures.value
-    (literal a)
 
 pub loop-at-init : goal.loop-at-init
 loop-at-init c = (omega arith, refl)
@@ -49,17 +29,17 @@ returns-in-Wrong c = sym
     (sym c.read_token.ensures ∙ c.in-Wrong.is))
 
 pub with_literal-literals-requires : goal.with_literal-literals-requires
-with_literal-literals-requires c = let l = within c.before in (l.least, omega (arith, l.most))
+with_literal-literals-requires c = let l = literal-bounds _ _ _ _ (sym c.read_token.ensures ∙ c.in-Literal.is) in (l.least, omega (arith, l.most))
 
 pub loop-at-smaller : goal.loop-at-smaller
-loop-at-smaller c = omega (arith, moves c.before.before.before)
+loop-at-smaller c = omega (arith, literal-moves _ _ _ _ _ _ c.loop-at-test.true c.past_class-end.ensures.value (sym c.read_token.ensures ∙ c.in-Literal.is))
 
 pub loop-at-preserved : goal.loop-at-preserved
 loop-at-preserved c = (
   omega arith,
   c.loop-at.invariant.1
       ∙ rest-literal _ _ _ _ _ c.loop-at-test.true _ c.past_class-end.ensures.value _ _ _
-      _ (literal c.before.before.before) c.skip_between-at.ensures.value
+      _ (sym c.read_token.ensures ∙ c.in-Literal.is) c.skip_between-at.ensures.value
       c.with_literal-literals.ensures,
 )
 

@@ -8,29 +8,21 @@ use borrow.Author.Tests.{eq-eqb, ne_eqb}
 use borrow.Author.Rules.{rules}
 use Rattle.dimacs.specs.Header.{is_word, spells}
 use Rattle.dimacs.proofs.Lines.{word-not, word-is}
-use Rattle.dimacs.proofs.header_line.is_cnf.Reads as reads
-use Rattle.dimacs.proofs.header_line.is_cnf.Lts as lts
-use Rattle.dimacs.proofs.header_line.is_cnf.Tie as tie
 use Rattle.dimacs.proofs.header_line.is_cnf.Goals as goal
 
 abbrev letters : List ℕ
 letters = 99 ∷ 110 ∷ 102 ∷ []
 
--- A word of three bytes is `cnf` where they are.
-cnf : (c : lts.Else1 tie.the-claims reads.Pre reads.Post tie.handed_clauses) → is_word c.args.s.now c.args.at letters
-    ≡ spells c.args.s.now c.args.at letters
-cnf c = word-is _ _ _ letters c.past_class-end.ensures.value (omega arith) c.if-end-at-ne3.false
-
 pub returns-then-end-at-ne3 : goal.returns-then-end-at-ne3
 returns-then-end-at-ne3 c = sym (word-not _ _ _ (99 ∷ 110 ∷ 102 ∷ []) c.past_class-end.ensures.value c.if-end-at-ne3.true)
 
 pub returns-then-s-at-ne99 : goal.returns-then-s-at-ne99
-returns-then-s-at-ne99 c = sym (cnf c.before.before ∙ rw (ne_eqb _ _ c.if-s-at-ne99.true))
+returns-then-s-at-ne99 c = sym (word-is _ _ _ letters c.past_class-end.ensures.value (omega arith) c.if-end-at-ne3.false ∙ rw (ne_eqb _ _ c.if-s-at-ne99.true))
 
 pub returns-then-s-second-ne110 : goal.returns-then-s-second-ne110
-returns-then-s-second-ne110 c = sym (cnf c.before.before.before.before ∙ rw (eq-eqb _ _ c.if-s-at-ne99.false, ne_eqb _ _ c.if-s-second-ne110.true))
+returns-then-s-second-ne110 c = sym (word-is _ _ _ letters c.past_class-end.ensures.value (omega arith) c.if-end-at-ne3.false ∙ rw (eq-eqb _ _ c.if-s-at-ne99.false, ne_eqb _ _ c.if-s-second-ne110.true))
 
 pub returns : goal.returns
 returns c = sym
-    (cnf c.before.before.before.before.before
+    (word-is _ _ _ letters c.past_class-end.ensures.value (omega arith) c.if-end-at-ne3.false
     ∙ rw (eq-eqb _ _ c.if-s-at-ne99.false, eq-eqb _ _ c.if-s-second-ne110.false) (and-true _))

@@ -17,10 +17,10 @@ pub returns-then-not-is_digit : goal.returns-then-not-is_digit
 returns-then-not-is_digit c = sym
     (c.loop-at.invariant.3
     ∙ digits-stop _ _ _ _ c.loop-at-test.true (omega arith)
-    (sym c.is_digit.ensures ∙ not-true _ c.if-not-is_digit.true-raw))
+    (sym c.is_digit.ensures ∙ c.if-not-is_digit.true))
 
 pub with_digit-n-requires : goal.with_digit-n-requires
-with_digit-n-requires c = let d = sym c.is_digit.ensures ∙ not-false _ c.if-not-is_digit.false-raw in
+with_digit-n-requires c = let d = sym c.is_digit.ensures ∙ c.if-not-is_digit.false in
     (omega arith, digit-least _ d, digit-most _ d)
 
 pub loop-at-preserved : goal.loop-at-preserved
@@ -30,7 +30,7 @@ loop-at-preserved c = (
   c.with_digit-n.ensures.upper_bound,
   c.loop-at.invariant.3
       ∙ digits-go _ _ _ _ _ c.loop-at-test.true (omega arith)
-      (sym c.is_digit.ensures ∙ not-false _ c.if-not-is_digit.false-raw)
+      (sym c.is_digit.ensures ∙ c.if-not-is_digit.false)
       c.with_digit-n.ensures.value,
 )
 

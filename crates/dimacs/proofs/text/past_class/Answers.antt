@@ -15,15 +15,18 @@ pub loop-i-init : goal.loop-i-init
 loop-i-init c = (omega arith, omega arith, refl)
 
 pub returns-then-not-admits : goal.returns-then-not-admits
-returns-then-not-admits c = record { value = sym (c.loop-i.invariant.2 ∙ past_stop _ _ _ c.loop-i-test.true
-      (sym c.admits.ensures ∙ not-true _ c.if-not-admits.true-raw)); lower_bound = (omega arith, omega arith) }
+returns-then-not-admits c = record {
+  value = sym (c.loop-i.invariant.2 ∙ past_stop _ _ _ c.loop-i-test.true
+      (sym c.admits.ensures ∙ c.if-not-admits.true));
+  lower_bound = (omega arith, omega arith);
+}
 
 pub loop-i-preserved : goal.loop-i-preserved
 loop-i-preserved c = (
   omega arith,
   omega arith,
   c.loop-i.invariant.2 ∙ past-go _ _ _ c.loop-i-test.true
-      (sym c.admits.ensures ∙ not-false _ c.if-not-admits.false-raw),
+      (sym c.admits.ensures ∙ c.if-not-admits.false),
 )
 
 pub returns : goal.returns

@@ -15,18 +15,18 @@ loop-at-init c = (omega arith, omega arith, between_left _ _)
 
 pub returns-then-not-is_comment : goal.returns-then-not-is_comment
 returns-then-not-is_comment c =
-    let none = ap (is_comment _) (sym c.past_class-first.ensures.value) ∙ sym c.is_comment.ensures ∙ not-true _ c.if-not-is_comment.true-raw in record { value = sym (c.loop-at.invariant.2 ∙ between-stop _ _ _ none ∙ sym c.past_class-first.ensures.value); lower_bound = (omega (arith, c.loop-at.invariant.0, c.past_class-first.ensures.lower_bound.0), c.past_class-first.ensures.lower_bound.1) }
+    let none = ap (is_comment _) (sym c.past_class-first.ensures.value) ∙ sym c.is_comment.ensures ∙ c.if-not-is_comment.true in record { value = sym (c.loop-at.invariant.2 ∙ between-stop _ _ _ none ∙ sym c.past_class-first.ensures.value); lower_bound = (omega (arith, c.loop-at.invariant.0, c.past_class-first.ensures.lower_bound.0), c.past_class-first.ensures.lower_bound.1) }
 
 pub loop-at-smaller : goal.loop-at-smaller
 loop-at-smaller c =
     let first = c.past_class-first in
-    let some = sym c.is_comment.ensures ∙ not-false _ c.if-not-is_comment.false-raw in
+    let some = sym c.is_comment.ensures ∙ c.if-not-is_comment.false in
     omega (
       arith,
       comment-moves _ _ some,
       c.past_class-place.ensures.value,
-      first.ensures.1.0,
-      first.ensures.1.1,
+      first.ensures.lower_bound.0,
+      first.ensures.lower_bound.1,
       c.loop-at.invariant.1,
       c.past_class-place.ensures.lower_bound.1,
     )
@@ -35,10 +35,10 @@ pub loop-at-preserved : goal.loop-at-preserved
 loop-at-preserved c =
     let s = c.args.s.now in
     let first = c.past_class-first in
-    let some = ap (is_comment _) (sym first.ensures.0) ∙ sym c.is_comment.ensures
-    ∙ not-false _ c.if-not-is_comment.false-raw in (
-      omega (arith, c.loop-at.invariant.0, first.ensures.1.0, c.past_class-place.ensures.lower_bound.0),
+    let some = ap (is_comment _) (sym first.ensures.value) ∙ sym c.is_comment.ensures
+    ∙ c.if-not-is_comment.false in (
+      omega (arith, c.loop-at.invariant.0, first.ensures.lower_bound.0, c.past_class-place.ensures.lower_bound.0),
       c.past_class-place.ensures.lower_bound.1,
       c.loop-at.invariant.2
-          ∙ left-comment _ _ some ∙ ap (left s) (sym (c.past_class-place.ensures.value ∙ ap (line_end s) first.ensures.0)),
+          ∙ left-comment _ _ some ∙ ap (left s) (sym (c.past_class-place.ensures.value ∙ ap (line_end s) first.ensures.value)),
     )
