@@ -25,8 +25,7 @@ use Rattle.paths.specs.Walk.{after_from, no_path}
 use Rattle.paths.proofs.Sequence.{count-is}
 use Rattle.paths.specs.Rounds.{most_rounds}
 use Rattle.path_lines.specs.Turns.{turn_by}
-use Rattle.path_lines.proofs.Turning.{Turning, Next, turning-none, next-first, next-after, turns-done, turns-full, turns-end}
-use Rattle.path_lines.proofs.Turning.{turns-on, added-fits, passed-fits}
+use Rattle.path_lines.proofs.Turning.{Turning, Next, turning-none, next-first, next-after, turns-done, turns-full, turns-end, turns-on, added-fits, passed-fits}
 use Rattle.path_lines.proofs.path_turns.Given as goal
 
 abbrev pub invariant-loop-more : goal.invariant-loop-more
