@@ -3,7 +3,7 @@
 use mathlib.Core.Path.{refl, sym, ◌∙◌}
 use Rattle.records.specs.Records.{record_of}
 use Rattle.records.proofs.Reading.{record-none, record-part, record-unknown}
-use borrow.Author.Rules.{rules}
+use native.Mathlib.Omega.{arith}
 use Rattle.records.proofs.record_at.Goals as goal
 
 pub returns-then-proof-at : goal.returns-then-proof-at
@@ -51,8 +51,5 @@ returns-in-69 c = sym (record-part _ _ 0x45 c.if-proof-at.false c.in-69.is)
 
 pub returns-in_default : goal.returns-in_default
 returns-in_default c =
-    let none = c.in_default.in_default-own.rest in
     sym (record-part _ _ _ c.if-proof-at.false refl
-    ∙ record-unknown _ _ none.0.0.0.0.0.0.0.0.0.1 none.0.0.0.0.0.0.0.0.1 none.0.0.0.0.0.0.0.1
-    none.0.0.0.0.0.0.1
-    none.0.0.0.0.0.1 none.0.0.0.0.1 none.0.0.0.1 none.0.0.1 none.0.1 none.1)
+    ∙ record-unknown _ _ (λ e. omega arith) (λ e. omega arith) (λ e. omega arith) (λ e. omega arith) (λ e. omega arith) (λ e. omega arith) (λ e. omega arith) (λ e. omega arith) (λ e. omega arith) (λ e. omega arith))
