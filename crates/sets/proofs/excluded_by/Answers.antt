@@ -4,7 +4,7 @@ use borrow.Author.Rules.{rules}
 use Rattle.sets.proofs.excluded_by.Goals as goal
 
 pub returns-then-m-gt32 : goal.returns-then-m-gt32
-returns-then-m-gt32 c = not-counted _ _ c.type_size.ensures.many _ c.if-m-gt32.true
+returns-then-m-gt32 c = not-counted _ _ c.size_of-m.ensures.many _ c.if-m-gt32.true
 
 pub returns : goal.returns
-returns c = counted _ _ c.type_size.ensures.many _ _ c.if-m-gt32.false c.excluded-excluded.ensures
+returns c = counted _ _ c.size_of-m.ensures.many _ _ c.if-m-gt32.false c.excluded-excluded.ensures
