@@ -6,8 +6,7 @@ use borrow.Author.Tests.{eq-eqb, ne_eqb}
 use Rattle.commands.specs.declared.Form.TheVariants.{Records, Text, Binary}
 use Rattle.commands.specs.Commands.{in_form}
 use Rattle.checker.specs.Forms.{form_of}
-use Rattle.checker.proofs.mode_of.Statement.{statement}
-use Rattle.checker.proofs.mode_of.Tie as tie
+use Rattle.checker.proofs.mode_of.Goals as goal
 
 named-records : (form : ℕ) (profile : Bool) → form ≡ 0 → in_form Records profile ≡ in_form (form_of form) profile
 named-records form profile e = rw (eq-eqb form 0 e)
@@ -18,14 +17,11 @@ named-text form profile d e = rw (ne_eqb form 0 d, eq-eqb form 1 e)
 named-binary : (form : ℕ) (profile : Bool) → (form ≡ 0 → ⊥) → (form ≡ 1 → ⊥) → in_form Binary profile ≡ in_form (form_of form) profile
 named-binary form profile d e = rw (ne_eqb form 0 d, ne_eqb form 1 e)
 
-returns : tie.Need-returns
-returns c = named-records _ _ c.if1.true
+pub returns-then-form-eq0 : goal.returns-then-form-eq0
+returns-then-form-eq0 c = named-records _ _ c.if-form-eq0.true
 
-returns-2 : tie.Need-returns-2
-returns-2 c = named-text _ _ c.before.if1.false c.if2.true
+pub returns-then-form-eq1 : goal.returns-then-form-eq1
+returns-then-form-eq1 c = named-text _ _ c.if-form-eq0.false c.if-form-eq1.true
 
-returns-3 : tie.Need-returns-3
-returns-3 c = named-binary _ _ c.before.if1.false c.if2.false
-
-pub mode-of-spec : {M : Type 1} → statement M
-mode-of-spec = tie.close (tie.spec returns returns-2 returns-3)
+pub returns : goal.returns
+returns c = named-binary _ _ c.if-form-eq0.false c.if-form-eq1.false
