@@ -1,0 +1,15 @@
+-- `copy_marks`: what is written so far is the front of the marks (Writing). Assumes nothing.
+use Prim.Native.Nat.{◌-◌}
+use mathlib.Core.Path.{refl, ◌∙◌}
+use native.Mathlib.Omega.{arith}
+use Rattle.book_parts.proofs.Writing.{Front, front-start, front-next, front-end, map_same}
+use borrow.Author.Rules.{rules}
+use Rattle.book_parts.proofs.put.copy_marks.Given as goal
+
+abbrev pub invariant-loop-i : goal.invariant-loop-i
+invariant-loop-i l =
+    Front (λ x. x) l.marks l.m l.initial.struck l.i l.struck
+
+abbrev pub decreases-loop-i : goal.decreases-loop-i
+decreases-loop-i l =
+    l.m - l.i
