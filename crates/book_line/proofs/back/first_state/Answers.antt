@@ -5,25 +5,11 @@ use Rattle.words.specs.Sets.{no_literals}
 use Rattle.state.specs.declared.State.{State}
 use Rattle.shares.specs.declared.Book.{Book}
 use borrow.Author.Rules.{rules}
-use Rattle.book_line.proofs.back.first_state.Statement.{statement}
-use Rattle.book_line.proofs.back.first_state.Tie as tie
+use Rattle.book_line.proofs.back.first_state.Goals as goal
 
--- src/back.rt:120:18
-add-t3 : tie.Need-overflow-add-t3
-add-t3 c = search rules
-
--- src/back.rt:128:23
-add-greater : tie.Need-overflow-add-greater
-add-greater c = search rules
-
--- src/back.rt:128:15
-greater-requires : tie.Need-greater-requires
-greater-requires c κs = search rules
-
--- src/back.rt:113:1
-returns : tie.Need-returns
+pub returns : goal.returns
 returns c =
-    let a = c.before.before.before.args in
+    let a = c.args in
     ap (made a.b a.count) c.greater.ensures
   where
     made : Book → ℕ → ℕ → State
@@ -38,6 +24,3 @@ returns c =
       peak = k;
       refuted = b.refuted;
     }
-
-pub first-state-spec : {M : Type 1} → statement M
-first-state-spec = tie.close (tie.spec add-t3 add-greater greater-requires returns)
