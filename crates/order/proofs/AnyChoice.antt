@@ -110,7 +110,7 @@ pub conflict-comes : {n : ℕ} {ms ms' : List Diagram} {rounds rounds' : ℕ} {b
 conflict-comes R t w (way.conflict c) = refl
 conflict-comes {n} {ms} {ms'} R t w (way.round u c i h rest) =
     conflict-comes {ms = map (cofactor_literals n (λ v. is_unit n u v true) (λ v. is_unit n u v false)) ms} (comes-literals R t _ _).1 refl
-      (within_units n u ms ms' w) rest
+    (within_units n u ms ms' w) rest
 conflict-comes {n} {ms} {ms'} R t w (way.none c h) = go R t
   where
     go : {rounds : ℕ} {b : Bool} → Propagates n ms rounds b → b ≡ true → false ≡ true
