@@ -1,4 +1,2 @@
 pub mod Calls
-pub mod Checking
 pub mod First
-pub mod Passing
