@@ -35,7 +35,8 @@ module _ (S : ℕ → Bool) where
   unfolding spread_from
   spread-in k i b a e = rw e
 
-  spread-out : (k i : ℕ) (b : Bool) (a : Assignment) → S i ≡ false → spread_from S (suc k) i (b ∷ a) ≡ false ∷ spread_from S k (suc i) (b ∷ a)
+  spread-out : (k i : ℕ) (b : Bool) (a : Assignment) → S i ≡ false → spread_from S (suc k) i (b ∷ a) ≡ false ∷
+      spread_from S k (suc i) (b ∷ a)
   unfolding spread_from
   spread-out k i b a e = rw e
 

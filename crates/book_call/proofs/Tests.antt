@@ -15,7 +15,8 @@ use Rattle.table.proofs.Written.{length-nodes}
 use Rattle.table.proofs.InOrder.{lent-good}
 use Rattle.shares.specs.declared.Book.{Book}
 use Rattle.shares.specs.Alone.{places}
-use Rattle.shares.specs.Books.{BookLists, BookOutcome, all_less, numbers_fit, holding_fits, holding, own_table, book_fits, charged, book_call}
+use Rattle.shares.specs.Books.{BookLists, BookOutcome, all_less, numbers_fit, holding_fits, holding, own_table, book_fits, charged}
+use Rattle.shares.specs.Books.{book_call}
 use Rattle.shares.specs.Books.{book_leaves, book_outcome_at, book_outcome}
 use Rattle.book_open.proofs.Sizes.{lists-fit}
 use Rattle.book_line.specs.declared.Said.{Said}

@@ -16,7 +16,8 @@ use Rattle.verdict.specs.Taken.{Valued}
 use Rattle.shares.specs.declared.Book.{Book}
 use Rattle.shares.specs.Alone.{Answer, opened_book, opened_alone, answers_alone}
 use Rattle.shares.specs.Books.{BookLists, BookOutcome, book_fits, holding, OpenOutcome, emptied_lists, unopened, open_outcome, refusal}
-use Rattle.shares.specs.Turns.{Desk, Turn, ofA, ofB, desk_opened, call_a, call_b, after_a, after_b, desk_after, answers_a, answers_b, calls_a}
+use Rattle.shares.specs.Turns.{Desk, Turn, ofA, ofB, desk_opened, call_a, call_b, after_a, after_b, desk_after, answers_a, answers_b}
+use Rattle.shares.specs.Turns.{calls_a}
 use Rattle.shares.specs.Turns.{calls_b}
 use Rattle.shares.specs.Meanings.{book_meant, ZeroSays, nodes_on}
 use Rattle.shares.proofs.Desks.{alone-a, alone-b, NoneRefused, none-refused-a, none-refused-b}

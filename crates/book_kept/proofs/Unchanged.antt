@@ -24,7 +24,8 @@ use Rattle.shares.specs.declared.Book.{Book}
 use Rattle.shares.specs.Shares.{Shared, sharing}
 use Rattle.shares.specs.Alone.{Answer, Alone, Result, places, is_line, book_step, Ending, ended, taken, after_step, line_call, state_of}
 use Rattle.shares.specs.Alone.{after_ending, by_stage, alone_call, opened_book, opened_alone}
-use Rattle.shares.specs.Books.{Holding, Called, holding_fits, own_table, alone_of, shared_after, refused_after, is_accepted, judged, charged}
+use Rattle.shares.specs.Books.{Holding, Called, holding_fits, own_table, alone_of, shared_after, refused_after, is_accepted, judged}
+use Rattle.shares.specs.Books.{charged}
 use Rattle.shares.specs.Books.{book_call, unfit}
 use Rattle.shares.specs.Books.{BookLists, book_fits, holding, BookOutcome, unchanged, book_leaves, book_outcome, book_outcome_at, refusal}
 use Rattle.shares.specs.Books.{OpenOutcome, emptied_lists, unopened, open_outcome}

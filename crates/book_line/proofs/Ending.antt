@@ -23,7 +23,8 @@ use Rattle.shares.specs.declared.Stage.{Stage}
 use Rattle.shares.specs.declared.Stage.TheVariants.{Lines}
 use Rattle.shares.specs.declared.Book.{Book}
 use Rattle.shares.specs.Shares.{number_in, Shared, sharing}
-use Rattle.shares.specs.Alone.{Alone, Result, Ending, ended, taken, places, line_call, state_of, book_bound, book_on, after_ending, later_call}
+use Rattle.shares.specs.Alone.{Alone, Result, Ending, ended, taken, places, line_call, state_of, book_bound, book_on, after_ending}
+use Rattle.shares.specs.Alone.{later_call}
 use Rattle.shares.specs.Books.{Holding, BookLists, padded, shared_after, refused_after, is_accepted, judged, book_leaves}
 use Rattle.shares.proofs.Sane.{Ends, EndsWell}
 use Rattle.shares.proofs.Rooms.{own_in, never-full}
@@ -158,7 +159,8 @@ module _ (T : Table) (l : BookLists) (b : Book) (lent : Lent) (first : State) (R
           let len : st.count ≡ length (own_nodes lent' st) = sym (length-nodes (table_in lent' st.count) H'.entries.good) in
           let S : Shared = G.shared in
           ap (said_outcome (lists_of after) (lists_made ms ss os) (zeros (length scratch))) er
-          ∙ made-is 35 (length bytes) (zeros (length scratch)) b' (book_on b (entries.state_of lent' st)) (eb ∙ ap (λ (k : ℕ). charged k) len)
+          ∙ made-is 35 (length bytes) (zeros (length scratch)) b' (book_on b (entries.state_of lent' st))
+          (eb ∙ ap (λ (k : ℕ). charged k) len)
           after.count (length S.nodes)
           (sym (length-nodes after G.good) ∙ ap length G.nodes) (lists_of after) (stored_as (size T) S.nodes)
           (good-stored after G.good ∙ ap₂ stored_as G.same_size G.nodes) ms

@@ -24,7 +24,8 @@ module _ (vs ls hs ds ks : List ℕ) (count : ℕ) (la lb : BookLists) (scratch 
   abbrev whole : OpenOutcome
   whole = open_outcome c count la lb scratch ba bb share_a share_b
 
-  pub first-unfit : book_fits c la scratch ≡ false → (r : Opened) → r ≡ unopened_said 7 count ba bb → opened_outcome c la lb scratch r ≡ whole
+  pub first-unfit : book_fits c la scratch ≡ false → (r : Opened) → r ≡ unopened_said 7 count ba bb → opened_outcome c la lb scratch r
+      ≡ whole
   unfolding open_outcome
   first-unfit e r q = ap (opened_outcome c la lb scratch) q ∙ rw e
 
@@ -45,7 +46,8 @@ module _ (vs ls hs ds ks : List ℕ) (count : ℕ) (la lb : BookLists) (scratch 
         made d a b s x y =
             record { answer = refusal 35; count = 2; columns = d; a = a; b = b; scratch = s; book_a = x; book_b = y }
 
-        opened-is : made (stored_as (length vs) emptied) (emptied_lists la) (emptied_lists lb) (zeros (length scratch)) (opened_book share_a)
+        opened-is : made (stored_as (length vs) emptied) (emptied_lists la) (emptied_lists lb) (zeros (length scratch))
+            (opened_book share_a)
             (opened_book share_b) ≡ whole
         unfolding open_outcome
         opened-is = rw (fa, fb, fit)
@@ -78,6 +80,7 @@ module _ (vs ls hs ds ks : List ℕ) (count : ℕ) (la lb : BookLists) (scratch 
               e₄ in
               ap₂ (λ (d : Columns) (a : BookLists). made d a (lists_of mb sb ob) scratch' x y) columns-left A
               ∙ ap₂ (λ (b : BookLists) (s : List ℕ). made (stored_as (length vs) emptied) (emptied_lists la) b s x y) B e₇
-              ∙ ap₂ (λ (u w : Book). made (stored_as (length vs) emptied) (emptied_lists la) (emptied_lists lb) (zeros (length scratch)) u w) p
+              ∙ ap₂ (λ (u w : Book). made (stored_as (length vs) emptied) (emptied_lists la) (emptied_lists lb) (zeros (length scratch)) u
+              w) p
               q
               ∙ opened-is

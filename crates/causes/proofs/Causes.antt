@@ -35,10 +35,12 @@ use Rattle.commands.specs.declared.Form.{Form}
 use Rattle.commands.specs.declared.Form.TheVariants.{Records, Text, Binary}
 use Rattle.commands.specs.declared.Mode.{Mode}
 use Rattle.commands.specs.Commands.{Command, recorded, added, struck_out, wrong, finished}
-use Rattle.verdict.specs.Steps.{State, with_entry, Step, next, stop, spent, is_entry, entry_node, is_variable, entered, node_step, witness_step}
+use Rattle.verdict.specs.Steps.{State, with_entry, Step, next, stop, spent, is_entry, entry_node, is_variable, entered, node_step}
+use Rattle.verdict.specs.Steps.{witness_step}
 use Rattle.verdict.specs.Steps.{waiting, judged, diagram_in, unstruck, live_members, line_step, is_live, strike_step, beyond, no_parity}
 use Rattle.verdict.specs.Steps.{set_diagram, set_step, end_step, record_step}
-use Rattle.verdict.specs.Clausal.{with_peak, judged_or, second_line, second_try, after_first, tries, once_made, add_step, first_same, strike_found}
+use Rattle.verdict.specs.Clausal.{with_peak, judged_or, second_line, second_try, after_first, tries, once_made, add_step, first_same}
+use Rattle.verdict.specs.Clausal.{strike_found}
 use Rattle.verdict.specs.Clausal.{strike_clause}
 use Rattle.verdict.specs.Check.{shut_out, step, Verdict, verdict}
 use Rattle.verdict.specs.Taken.{Function, Meant, Valued, peak_with}
@@ -171,7 +173,8 @@ node-told profile n s st more b =
 rup-so : (n : ℕ) (st : State) (g : Diagram) → (rup n (live_members st) g).shown ≡ false →
     RupFails n st g (fixes n (by_diagram n (negation n g) (live_members st)))
 unfolding rup
-rup-so n st g fails = fixes-so n (by_diagram n (negation n g) (live_members st)) (by_diagram-reduced n (negation n g) (live_members st)) fails
+rup-so n st g fails = fixes-so n (by_diagram n (negation n g) (live_members st)) (by_diagram-reduced n (negation n g) (live_members st))
+    fails
 
 module _ (profile : Bool) (n s : ℕ) (st : State) (marked : length st.struck ≡ length st.members) (more : Bool) (root : EntryNo) where
   abbrev g : ℕ
@@ -200,7 +203,8 @@ module _ (profile : Bool) (n s : ℕ) (st : State) (marked : length st.struck �
       (λ _. tests profile n st c (not (witnessed n P N (diagram_in st g))) (stop 18 0) _
       (λ q _. not-witnessed (smallest-so n P N (diagram_in st g) (sym (not-not (witnessed n P N (diagram_in st g))) ∙ ap not q)))
       (λ _. judged-told profile n st c s g st (pr n P N (live_members st) (diagram_in st g)) (λ fails.
-      let (rounds, i, is, so) = pr-so n P N st (diagram_in st g) marked fails in subst (Caused profile n st c 19) (sym is) (pr-fails so))))))
+      let (rounds, i, is, so) = pr-so n P N st (diagram_in st g) marked fails in
+      subst (Caused profile n st c 19) (sym is) (pr-fails so))))))
 
   path-told : Told profile n st (recorded (ProofLine Path root) more) (line_step n s st Path root.0)
   unfolding line_step path_line cause record_cause line_cause path_cause
@@ -281,13 +285,15 @@ module _ (profile : Bool) {s n : ℕ} {m : Meant} {st : State} (S : Standing s n
         first-try-fails last
         (rup-so n st (meaning.clause n ls) (subst (λ (ms : List Diagram). (rup n ms (meaning.clause n ls)).shown ≡ false) live fails))
 
-    second-told : (b : Bool) → profile ≡ b → (ls : List Literal) → (rup n (live_members st₁) (meaning.clause n ls)).shown ≡ false → (peak : ℕ)
+    second-told : (b : Bool) → profile ≡ b → (ls : List Literal) → (rup n (live_members st₁) (meaning.clause n ls)).shown ≡ false →
+        (peak : ℕ)
         → Told b n st (added ls) (after_first b n s st₁ k ls peak)
     unfolding after_first second_try cause clause_cause
     second-told true e ls fails peak = λ h. subst
         (λ (b : Bool). Caused b n st (added ls) 19 (rup_cause n (live_members st) (meaning.clause n ls))) e (first-fails ls (inl e) fails)
     second-told false e [] fails peak = λ h. subst
-        (λ (b : Bool). Caused b n st (added []) 19 (rup_cause n (live_members st) (meaning.clause n []))) e (first-fails [] (inr refl) fails)
+        (λ (b : Bool). Caused b n st (added []) 19 (rup_cause n (live_members st) (meaning.clause n []))) e
+        (first-fails [] (inr refl) fails)
     second-told false e (p ∷ ls) fails peak =
         let P : ℕ → Bool = makes_true (witness p (p ∷ ls)) in
         let N : ℕ → Bool = makes_false (witness p (p ∷ ls)) in
@@ -386,7 +392,8 @@ module _ (mode : Mode) (s : ℕ) (text proof : List ℕ) where
 only-other : (wanted number : ℕ) (c : Cause) → eqb number wanted ≡ false → only wanted number c ≡ plain
 only-other wanted number c e = rw e
 
-pub cause-plain : (profile : Bool) (n number : ℕ) (st : State) (c : Command) → has_cause number ≡ false → cause profile n number st c ≡ plain
+pub cause-plain : (profile : Bool) (n number : ℕ) (st : State) (c : Command) → has_cause number ≡ false → cause profile n number st c
+    ≡ plain
 unfolding cause record_cause line_cause
 cause-plain profile n number st c other =
     let (a, rest) = or-neither (eqb number 14) (eqb number 18 || eqb number 19) other in

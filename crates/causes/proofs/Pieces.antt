@@ -95,7 +95,8 @@ clause-ends s at h =
     (λ t. let lt : at < length s = ltb-true at (length s) t in
     either s at (is_word s at (100 ∷ [])) (closed_end s (clause_from s 64 (length s - body) at body))
     (closed_end s (clause_from s 64 (length s - at) at at))
-    (λ _. closed-ends Fault s 64 at at body behind (between-most s (at + 1) (omega (arith, lt))) (clause_from s 64 (length s - body) at body)
+    (λ _. closed-ends Fault s 64 at at body behind (between-most s (at + 1) (omega (arith, lt)))
+    (clause_from s 64 (length s - body) at body)
     (clause-in s 64 at (length s - body) body behind h))
     (λ _. closed-ends Fault s 64 at at at (omega arith) h (clause_from s 64 (length s - at) at at)
     (clause-in s 64 at (length s - at) at (omega arith) h)))

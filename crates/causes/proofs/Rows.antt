@@ -28,5 +28,6 @@ shown-later = (refl, (refl, (refl, (refl, (refl, (refl, (refl, (refl, (refl, (re
 
 -- 7 before 30: a word or a member too few
 pub seven-first : (number_with 127 2048 ≡ 7) × (number_with 128 2047 ≡ 7) × (number_with 128 2048 ≡ 30)
-unfolding why lent_fits size_fits explanation clauses_from record_at above in_word place clause diagram_from same? rup value_from diagram_at ℕ_discrete
+unfolding why lent_fits size_fits explanation clauses_from record_at above in_word place clause diagram_from same? rup value_from diagram_at
+    ℕ_discrete
 seven-first = (refl, refl, refl)

@@ -53,7 +53,8 @@ module _ (n : ℕ) (P N : ℕ → Bool) (ms : List Diagram) where
       before : List Diagram
       before = cofactor_literals n P N f ∷ negation n (cofactor_literals n P N f) ∷ turn_members n P N ms f
 
-      go : (one : Bool) → (cond one (pr_turns n P N ms []) (after_turn (unit_prop n (turn_members n P N ms f)) before (pr_turns n P N ms []))
+      go : (one : Bool) → (cond one (pr_turns n P N ms [])
+          (after_turn (unit_prop n (turn_members n P N ms f)) before (pr_turns n P N ms []))
           ).shown ≡ false
           → (one ≡ false) × ((unit_prop n (turn_members n P N ms f)).conflict ≡ false)
       go true e = t≢f e
@@ -130,7 +131,8 @@ module _ (n : ℕ) (P N : ℕ → Bool) (ms : List Diagram) where
             rw (live_at i true lt l, s) (record { member = i; is = refl; inside = lt; live = live_at i true lt l; fails = s; lower = low })
         go true l true s f rec =
             rw (live_at i true lt l, s) (rec (lower-next i low (λ _. s))
-            (sym (turns-one (member_in st i) (from (suc i)) ∙ rw s) ∙ sym (ap (λ (x : List Diagram). (pr_turns n P N ms x).shown) f) ∙ fails))
+            (sym (turns-one (member_in st i) (from (suc i)) ∙ rw s) ∙ sym (ap (λ (x : List Diagram). (pr_turns n P N ms x).shown) f)
+            ∙ fails))
         go false l t s f rec =
             rw (live_at i false lt l) (rec (lower-next i low (λ q. t≢f (sym q ∙ live_at i false lt l)))
             (sym (ap (λ (x : List Diagram). (pr_turns n P N ms x).shown) f) ∙ fails))

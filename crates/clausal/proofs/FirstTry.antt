@@ -35,7 +35,8 @@ module _ (n : ℕ) (c : Clause) (w : OfVariables n c) (plain : Plain c) where
     rup-all r = subst (λ (ms : List Diagram). (unit_prop n ms).conflict ≡ true) (sym (members-by F))
         (go (unit_prop n (map (under n (negations c)) F)).conflict refl)
       where
-        go : (b : Bool) → (unit_prop n (map (under n (negations c)) F)).conflict ≡ b → (unit_prop n (map (under n (negations c)) F)).conflict
+        go : (b : Bool) → (unit_prop n (map (under n (negations c)) F)).conflict ≡ b →
+            (unit_prop n (map (under n (negations c)) F)).conflict
             ≡ true
         go true e = e
         go false e =

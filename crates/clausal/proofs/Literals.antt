@@ -1,5 +1,5 @@
--- Literals and lists of them: equality of literals, membership, and what `all_false` and `all_false_but` say literal by literal. The idea: by
--- the list's cases. Assumes nothing.
+-- Literals and lists of them: equality of literals, membership, and what `all_false` and `all_false_but` say literal by literal. The idea:
+-- by the list's cases. Assumes nothing.
 use mathlib.Core.Path.{◌≡◌, refl, sym, ap, ◌∙◌, subst}
 use mathlib.Core.Logic.{◌⊎◌, inl, inr, ◌≢◌}
 use mathlib.Core.Bool.{Bool, true, false, not, ◌&&◌, ◌||◌, cond, beq}
@@ -127,7 +127,8 @@ unfolding all_false
 each-all_false α [] h = refl
 each-all_false α (k ∷ c) h = rw (h k (has_here k c)) (each-all_false α c (λ l x. h l (has_there k c l x)))
 
-pub all_false_but-each : (α : List Literal) (l : Literal) (c : Clause) → all_false_but α l c ≡ true → (k : Literal) → has c k ≡ true → k ≢ l →
+pub all_false_but-each : (α : List Literal) (l : Literal) (c : Clause) → all_false_but α l c ≡ true → (k : Literal) → has c k ≡ true →
+    k ≢ l →
     has α (negated k) ≡ true
 unfolding all_false_but has
 all_false_but-each α l [] e k h ne = t≢f (sym h)
@@ -139,7 +140,8 @@ all_false_but-each α l (j ∷ c) e k h ne =
     (λ y. subst (λ (m : Literal). has α (negated m) ≡ true) x y))
     (λ x. all_false_but-each α l c b.1 k x ne)
 
-pub each-all_false_but : (α : List Literal) (l : Literal) (c : Clause) → ((k : Literal) → has c k ≡ true → k ≢ l → has α (negated k) ≡ true) →
+pub each-all_false_but : (α : List Literal) (l : Literal) (c : Clause) →
+    ((k : Literal) → has c k ≡ true → k ≢ l → has α (negated k) ≡ true) →
     all_false_but α l c ≡ true
 unfolding all_false_but
 each-all_false_but α l [] h = refl

@@ -36,7 +36,8 @@ pub record Closed (F : List Clause) (α : List Literal) : Type 0 where
 pub closed-stays : (F : List Clause) (α : List Literal) → Closed F α → {β : List Literal} → Among β α → Refutes F β → ⊥
 closed-stays F α C {β} le (falsified c i e) = C.none-false c i (each-all_false α c (λ l h. le (negated l) (all_false-each β c e l h)))
 closed-stays F α C {β} le (propagated c l i h e r) =
-    let t : has α l ≡ true = C.unit-there c l i h (each-all_false_but α l c (λ k x ne. le (negated k) (all_false_but-each β l c e k x ne))) in
+    let t : has α l ≡ true = C.unit-there c l i h (each-all_false_but α l c (λ k x ne. le (negated k) (all_false_but-each β l c e k x ne)))
+    in
     closed-stays F α C {β = l ∷ β} (λ k x. has-cases l β k x (λ q. subst (λ (m : Literal). has α m ≡ true) q t) (le k)) r
 
 -- ---- where rounds end
@@ -124,7 +125,8 @@ module _ (n : ℕ) (F : List Clause) (within : AllOfVariables n F) where
       (λ β p x. propagate-refutes k β p x)
     where
       go : (b : Bool) → conflicts n (members α) ≡ b → (x : Option Diagram) → first_with_unit n (members α) ≡ x
-          → (cond b (still true) (taking x (λ u. round (by_units n u (members α)) (propagate k n (by_units n u (members α)))))).conflict ≡ true
+          → (cond b (still true) (taking x (λ u. round (by_units n u (members α)) (propagate k n (by_units n u (members α)))))).conflict
+          ≡ true
           → ((β : List Literal) → Plain β → (propagate k n (members β)).conflict ≡ true → Refutes F β) → Refutes F α
       go true c x f e ih = conflict-refutes n α plain F within c
       go false c none f e ih = t≢f (sym e)

@@ -83,7 +83,8 @@ module _ (n : ℕ) (α : List Literal) (plain : Plain α) (c : Clause) (w : OfVa
         under-value n α c a len ∙ go a len (clause_value (rest α c) a) refl ∙ sym (clause-value n a len (rest α c))
       where
         -- a literal of the rest has its own value
-        own : (a : Assignment) → length a ≡ n → (k : Literal) → has (rest α c) k ≡ true → literal_value k (forced_by α a) ≡ literal_value k a
+        own : (a : Assignment) → length a ≡ n → (k : Literal) → has (rest α c) k ≡ true → literal_value k (forced_by α a)
+            ≡ literal_value k a
         own a len k h =
             let (x, f) = rest_has α c k h in
             let r : (1 ≤ k.variable) × (k.variable ≤ n) = has_within n c k w x in

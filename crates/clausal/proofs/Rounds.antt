@@ -62,7 +62,8 @@ forced-append α β a plain =
     go false false false false b h = refl
 
 -- a cofactor by further literals
-pub under_more : (n : ℕ) (α β : List Literal) (c : Clause) → Plain (β ++ α) → cofactor_literals n (makes_true β) (makes_false β) (under n α c)
+pub under_more : (n : ℕ) (α β : List Literal) (c : Clause) → Plain (β ++ α) →
+    cofactor_literals n (makes_true β) (makes_false β) (under n α c)
     ≡ under n (β ++ α) c
 under_more n α β c plain =
     unique n 1 (suc n) _ (under n (β ++ α) c) (omega arith) (literals-reduced n (makes_true β) (makes_false β) (under n α c))

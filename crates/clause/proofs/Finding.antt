@@ -141,7 +141,8 @@ module _ (T : Table) (G : Good T) (u : Literals) where
         (high : h ≡ cond (in_word p v) 1 k) where
       pub find-turn : (j : ℕ) → put (size T) t v l h ≡ placed t j → Making T u (v - 1) (stay T j)
       find-turn j e =
-          (make-turn T G u apart v some (stay T k) M l h low high (stay T j) (stays-written T G j ∙ ap (written (size T)) (sym e))).next refl
+          (make-turn T G u apart v some (stay T k) M l h low high (stay T j) (stays-written T G j ∙ ap (written (size T)) (sym e))).next
+          refl
 
       pub find_absent : ((j : ℕ) → put (size T) t v l h ≡ placed t j → ⊥) → (j : ℕ) → wanted ≡ placed t j → ⊥
       find_absent absent j e =

@@ -84,7 +84,8 @@ module _ (T : Table) (G : Good T) (u : Literals) where
 
   made-so-far : (v : ℕ) → v ≤ 64 → (o : Outcome) → o.full ≡ false → o ≡ place_in T (clause_words u (64 - v) (suc v)) → Making T u v o
   made-so-far v most o f e =
-      let W : Grown T (clause_words u (64 - v) (suc v)) o = grown T G (clause_words u (64 - v) (suc v)) (from_one (64 - v) v (omega arith)) o
+      let W : Grown T (clause_words u (64 - v) (suc v)) o = grown T G (clause_words u (64 - v) (suc v)) (from_one (64 - v) v (omega arith))
+      o
       e in
       record { most = most; going = f; good = W.good; same_size = W.same_size; is = e }
 

@@ -28,7 +28,8 @@ made T G u o e = grown T G (clause_of_words u) (of-words-reduced u) o e
 
 module _ (n : ℕ) (most : n ≤ 64) (ls : List Literal) (i : OfVariables n ls) where
   -- for n variables, or any greater number
-  pub clause-value : (m : ℕ) → n ≤ m → m ≤ 64 → (a : Assignment) → length a ≡ m → value (clause_of_words (literals_of ls)) a ≡ clause_value ls a
+  pub clause-value : (m : ℕ) → n ≤ m → m ≤ 64 → (a : Assignment) → length a ≡ m → value (clause_of_words (literals_of ls)) a
+      ≡ clause_value ls a
   unfolding clause
   clause-value m le top a len =
       ap (λ (f : Diagram). value f a) (clause-of-words m top ls (within_more n m le ls i)) ∙ diagram-value m (clause_value ls) a len

@@ -1,5 +1,5 @@
--- What the code gives of a refused clause's last try is the definition's cause. The idea: the members keep their diagrams while the clause's is
--- made. Assumes nothing.
+-- What the code gives of a refused clause's last try is the definition's cause. The idea: the members keep their diagrams while the
+-- clause's is made. Assumes nothing.
 use mathlib.Core.Path.{◌≡◌, refl, sym, ap, ap₂, ◌∙◌, subst}
 use mathlib.Core.Bool.{Bool, true, false, cond}
 use mathlib.Core.List.{List, [], ◌∷◌, map}

@@ -52,7 +52,8 @@ module _ (n : ℕ) (L : Lent) (st : State) (T₁ : Table) (k : ℕ) where
         (rup-at n M.held.entries.narrow T₁ M.held.entries.good M.held.entries.uses live
         (live_inside n (lent_made L T₁) (state_made st T₁) M.held) k M.inside M.not-one)
 
-    pr-is : (P N : ℕ → Bool) → pr n P N (live_members S₁) (clause n ls) ≡ pr 64 P N (diagrams_of (nodes_of T₁) live) (diagram_at (nodes_of T₁) k)
+    pr-is : (P N : ℕ → Bool) → pr n P N (live_members S₁) (clause n ls)
+        ≡ pr 64 P N (diagrams_of (nodes_of T₁) live) (diagram_at (nodes_of T₁) k)
     pr-is P N =
         ap (pr n P N (live_members S₁)) (sym M.is)
         ∙ sym

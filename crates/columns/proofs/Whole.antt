@@ -20,7 +20,8 @@ use Rattle.columns.proofs.Setting.{Cut}
 -- ---- lists
 
 -- the columns of the slice of three columns
-nodes-columns : (a b c : List ℕ) → length b ≡ length a → length c ≡ length a → (vars_of (as_nodes a b c) ≡ a) × (lows_of (as_nodes a b c) ≡ b)
+nodes-columns : (a b c : List ℕ) → length b ≡ length a → length c ≡ length a → (vars_of (as_nodes a b c) ≡ a)
+    × (lows_of (as_nodes a b c) ≡ b)
     × (highs_of (as_nodes a b c) ≡ c)
 unfolding vars_of lows_of highs_of as_nodes
 nodes-columns [] [] [] eb ec = (refl, refl, refl)
@@ -53,7 +54,8 @@ Sized vs ls hs = (length vs ≡ 65536) × (length ls ≡ 65536) × (length hs �
 
 -- a slice that the arrays have room for: its columns are in the first places before, and it has what stands there after
 pub columns-before : (ys : List Node) (vs ls hs : List ℕ) → (take (length ys) (column var_of ys vs (length ys)) ≡ vars_of ys)
-    × (take (length ys) (column low_of ys ls (length ys)) ≡ lows_of ys) × (take (length ys) (column high_of ys hs (length ys)) ≡ highs_of ys)
+    × (take (length ys) (column low_of ys ls (length ys)) ≡ lows_of ys)
+    × (take (length ys) (column high_of ys hs (length ys)) ≡ highs_of ys)
 unfolding vars_of lows_of highs_of
 columns-before ys vs ls hs =
     let n : ℕ = length ys in

@@ -30,14 +30,16 @@ open-not-last : (b : ℕ) (t : Bool) → ltb b 128 ≡ t → is_open_group b ≡
 open-not-last b true e = lt-leb 128 b (ltb-true b 128 e)
 open-not-last b false e = le-leb 128 b (ltb-false b 128 e)
 
-groups-end : (bs : List ℕ) (k : ℕ) → run is_open_group bs ≡ k → k < length bs → groups_in bs ≡ groups (number_in k bs) (suc k) (get_or bs k 0)
+groups-end : (bs : List ℕ) (k : ℕ) → run is_open_group bs ≡ k → k < length bs → groups_in bs
+    ≡ groups (number_in k bs) (suc k) (get_or bs k 0)
 unfolding run groups_in number_in
 groups-end [] k e h = absurd (omega arith)
 groups-end (b ∷ bs) k e h = go (ltb b 128) refl k e h (λ j q i. groups-end bs j q i)
   where
     go : (t : Bool) → ltb b 128 ≡ t → (k : ℕ) → cond (is_open_group b) (suc (run is_open_group bs)) 0 ≡ k → k < suc (length bs)
         → ((j : ℕ) → run is_open_group bs ≡ j → j < length bs → groups_in bs ≡ groups (number_in j bs) (suc j) (get_or bs j 0))
-        → cond (ltb b 128) (groups b 1 b) (group_then (b - 128) (groups_in bs)) ≡ groups (number_in k (b ∷ bs)) (suc k) (get_or (b ∷ bs) k 0)
+        → cond (ltb b 128) (groups b 1 b) (group_then (b - 128) (groups_in bs))
+        ≡ groups (number_in k (b ∷ bs)) (suc k) (get_or (b ∷ bs) k 0)
     go true t zero e h ih = rw t refl
     go true t (suc k) e h ih = let z : ◌≡◌ {A = ℕ} 0 (suc k) = rw (open-not-last b true t) at e in absurd (omega arith)
     go false t zero e h ih = let z : ◌≡◌ {A = ℕ} (suc (run is_open_group bs)) 0 = rw (open-not-last b false t) at e in absurd (omega arith)

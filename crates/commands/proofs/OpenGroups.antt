@@ -121,7 +121,8 @@ module _ (s : List ℕ) (n first : ℕ) (u : Literals) (at : ℕ) where
     here : (g : Groups) → groups_in (drop at s) ≡ g → rest_in s n first u at ≡ clause_after u (after_groups n first at g rest)
     here g e =
         let steps : length s - at ≡ suc (length s - (at + 1)) = omega arith in
-        ap (λ (k : ℕ). clause_after u (binary_from s n k first at)) steps ∙ ap (clause_after u) (binary-suc s n (length s - (at + 1)) first at)
+        ap (λ (k : ℕ). clause_after u (binary_from s n k first at)) steps
+        ∙ ap (clause_after u) (binary-suc s n (length s - (at + 1)) first at)
         ∙ ap (λ (x : Groups). clause_after u (after_groups n first at x rest)) e
 
     pub rest-closing : (r : GroupsRead) → r ≡ groups_read n at (groups_in (drop at s)) → r.token ≡ Closing

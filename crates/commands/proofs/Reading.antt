@@ -88,7 +88,8 @@ module _ (F : ℕ → ℕ → ℕ → Type 0) (s : List ℕ) (n first : ℕ) whe
   with_in v b at ended lo hi h = h
 
 module _ (s : List ℕ) (n first : ℕ) where
-  after-in : (t : Token) (at : ℕ) (x : Next) → first ≤ at → at < length s → token_at s n at ≡ t → ClauseIn Fault s n first (next_at s n at) x
+  after-in : (t : Token) (at : ℕ) (x : Next) → first ≤ at → at < length s → token_at s n at ≡ t →
+      ClauseIn Fault s n first (next_at s n at) x
       → ClauseIn Fault s n first at (after_token t first at (token_end s at) x)
   after-in Closing at x lo hi e h = (closing-moves s n at hi e, past-most is_token s at (omega arith), tt)
   after-in (Wrong number) at x lo hi e h =
@@ -188,7 +189,8 @@ module _ (onward : ℕ → ℕ) (first : ℕ) (strikes : Bool) where
   closed_is (closed ls f end) c p next e q is =
       let same : record { literals = literals_of ls; first = f; next = end } ≡ c = ap clause_in e in
       sym (words strikes ls (onward end)
-      ∙ ap (λ (p : Pivot). record { command = clause_command strikes (record { literals = literals_of ls; pivot = p }); next = onward end }) q
+      ∙ ap (λ (p : Pivot). record { command = clause_command strikes (record { literals = literals_of ls; pivot = p }); next = onward end })
+      q
       ∙ ap (λ (c : ClosedClause). record {
         command = clause_command strikes (record { literals = c.literals; pivot = p });
         next =

@@ -1,6 +1,7 @@
 -- What stands next in a proof, in each of its forms, and where what follows it stands. There is one kind of command for all forms, so that
 -- reading is per form and judging is one. (01, The proof; 02, 4/14 and 9/14)
-use Rattle.std.specs.Prelude.{Bool, true, false, ◌&&◌, ◌||◌, cond, List, [], ◌∷◌, ℕ, zero, suc, ◌+◌, ◌-◌, ◌*◌, ◌/◌, ◌%◌, length, get_or, drop, eqb, ltb}
+use Rattle.std.specs.Prelude.{Bool, true, false, ◌&&◌, ◌||◌, cond, List, [], ◌∷◌, ℕ, zero, suc, ◌+◌, ◌-◌, ◌*◌, ◌/◌, ◌%◌, length, get_or}
+use Rattle.std.specs.Prelude.{drop, eqb, ltb}
 use Rattle.meaning.specs.Operations as meaning
 use Rattle.dimacs.specs.Text.{between, between_from}
 use Rattle.dimacs.specs.Header.{is_word}

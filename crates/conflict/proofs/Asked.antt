@@ -36,7 +36,8 @@ any_at p t [] k q e = absurd (omega arith)
 any_at p t (j ∷ js) zero q e = ap (λ (b : Bool). b || any p (diagrams_of t js)) e
 any_at p t (j ∷ js) (suc k) q e = or_right (p (diagram_at t j)) (any p (diagrams_of t js)) (any_at p t js k (omega arith) e)
 
-any-nowhere : (p : Diagram → Bool) (t : List Node) (list : List ℕ) → ((k : ℕ) → k < length list → p (diagram_at t (get_or list k 0)) ≡ false) →
+any-nowhere : (p : Diagram → Bool) (t : List Node) (list : List ℕ) →
+    ((k : ℕ) → k < length list → p (diagram_at t (get_or list k 0)) ≡ false) →
     any p (diagrams_of t list) ≡ false
 unfolding any
 any-nowhere p t [] h = refl
@@ -83,7 +84,8 @@ unfolding asks
 asks-each t k all s = rw s refl
 
 -- of two negations one is 0 where all variables are false
-negated-value : (t : List Node) (j k : ℕ) → diagram_at t k ≡ negation 64 (diagram_at t j) → value_under t j 0 ≡ true → value_under t k 0 ≡ false
+negated-value : (t : List Node) (j k : ℕ) → diagram_at t k ≡ negation 64 (diagram_at t j) → value_under t j 0 ≡ true → value_under t k 0
+    ≡ false
 unfolding value_under
 negated-value t j k e z =
     ap (λ (f : Diagram). value f (assignment_of 64 0)) e
@@ -129,7 +131,8 @@ module _ (t : List Node) (list : List ℕ) where
   unfolding negation_in
   nowhere-negated f n =
       any-nowhere (λ g. same g (negation 64 f)) t list λ j q.
-      not-true (same (diagram_at t (get_or list j 0)) (negation 64 f)) (λ e. n j q (same-eq (diagram_at t (get_or list j 0)) (negation 64 f) e))
+      not-true (same (diagram_at t (get_or list j 0)) (negation 64 f))
+      (λ e. n j q (same-eq (diagram_at t (get_or list j 0)) (negation 64 f) e))
 
   module _ (O : Ordered t) (inside : Inside (length t) list) (asked : List ℕ) (all : Bool) (A : Asked t list asked all)
       (unlisted : (k : ℕ) → k < length asked → asks t (get_or asked k 0) all ≡ true →
@@ -144,7 +147,8 @@ module _ (t : List Node) (list : List ℕ) where
         ∙ ap (λ (k : ℕ). negation_in (diagrams_of t list) (diagram_at t k)) (sym m.2)
         ∙ unlisted m.0 m.1 (ap (λ (k : ℕ). asks t k all) m.2 ∙ a))
 
-    not-negations : (i j : ℕ) → i < length list → j < length list → diagram_at t (get_or list j 0) ≢ negation 64 (diagram_at t (get_or list i 0))
+    not-negations : (i j : ℕ) → i < length list → j < length list → diagram_at t (get_or list j 0) ≢ negation 64
+        (diagram_at t (get_or list i 0))
     not-negations i j p q e = by all refl
       where
         back : diagram_at t (get_or list i 0) ≡ negation 64 (diagram_at t (get_or list j 0))

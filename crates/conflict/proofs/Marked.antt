@@ -45,7 +45,8 @@ module _ (T : Table) (G : Good T) (list : List ℕ) (h : Inside T.count list) wh
       n.1
       ∙ sym (marks-tell (size T) list in_size k.0 (omega (arith, n.0, G.within)))
   negation-marked f Nothing n =
-      negation-absent (nodes_of T) (good-ordered T G) list in-nodes (diagram_at (nodes_of T) f) (λ k p. n k (omega (arith, length-nodes T G)))
+      negation-absent (nodes_of T) (good-ordered T G) list in-nodes (diagram_at (nodes_of T) f)
+      (λ k p. n k (omega (arith, length-nodes T G)))
 
   -- what its mark tells of a member's negation
   negation-told : (f : ℕ) (r : Found) → Negates T f r → (marks : List ℕ) → marks ≡ set_all 1 (unmarked (size T)) list → (b : Bool) → b

@@ -30,7 +30,8 @@ groups-back l lo hi rest = go l.positive refl
     back : (u : ℕ) → 2 ≤ u → u ≤ 129 → (last : ℕ) × (groups_in (groups_of u ++ rest) ≡ groups u (length (groups_of u)) last) × (last ≢ 0)
     back u p q = small (ltb u 128) refl
       where
-        small : (b : Bool) → ltb u 128 ≡ b → (last : ℕ) × (groups_in (groups_of u ++ rest) ≡ groups u (length (groups_of u)) last) × (last ≢ 0)
+        small : (b : Bool) → ltb u 128 ≡ b → (last : ℕ) × (groups_in (groups_of u ++ rest) ≡ groups u (length (groups_of u)) last)
+            × (last ≢ 0)
         small true e = (u, rw (e, e) refl, λ z. absurd (omega arith))
         small false e =
             let ge : 128 ≤ u = ltb-false u 128 e in
@@ -125,7 +126,8 @@ binary-line b ls small {s} {at} rest A =
 
 -- ---- all clauses
 
-binary-lines : (xs : List (Bool × List meaning.Literal)) → AllSmall xs → {s : List ℕ} {at : ℕ} → At s at (printed binary_line xs) → (k : ℕ) →
+binary-lines : (xs : List (Bool × List meaning.Literal)) → AllSmall xs → {s : List ℕ} {at : ℕ} → At s at (printed binary_line xs) →
+    (k : ℕ) →
     length xs < k → lines_from k Binary s at ≡ whole xs
 unfolding lines_from binary_read
 binary-lines xs small A zero lt = absurd (omega arith)

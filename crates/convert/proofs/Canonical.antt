@@ -13,7 +13,8 @@ use borrow.Author.Tests.{le-ltb, eqb-true, eqb-false, ltb-true, ltb-false}
 use Rattle.meaning.specs.Operations as meaning
 use Rattle.dimacs.specs.Clauses.{Next, closed, ended, refused, literal_then, after_token}
 use Rattle.commands.specs.declared.Form.TheVariants.{Binary}
-use Rattle.commands.specs.Commands.{Command, added, struck_out, wrong, finished, Read, reading, clause_read, Groups, cut, groups, group_then}
+use Rattle.commands.specs.Commands.{Command, added, struck_out, wrong, finished, Read, reading, clause_read, Groups, cut, groups}
+use Rattle.commands.specs.Commands.{group_then}
 use Rattle.commands.specs.Commands.{groups_in, after_groups, binary_from, binary_read}
 use Rattle.commands.proofs.Groups.{Well, groups-well, token-by}
 use Rattle.convert.specs.Convert.{Lines, line_then, lines_then, lines_from, lines_of, code_of, groups_of, binary_literals, binary_line}

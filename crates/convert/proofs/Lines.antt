@@ -135,7 +135,8 @@ module _ (s : List ℕ) (at : ℕ) (inside : at < length s) where
   unfolding lines_from binary_read
   binary-struck e f k = rw (lt-ltb at (length s) inside, e, f) refl
 
-  binary-other : eqb (get_or s at 0) 0x61 ≡ false → eqb (get_or s at 0) 0x64 ≡ false → (k : ℕ) → lines_from (suc k) Binary s at ≡ ending 9 at
+  binary-other : eqb (get_or s at 0) 0x61 ≡ false → eqb (get_or s at 0) 0x64 ≡ false → (k : ℕ) → lines_from (suc k) Binary s at
+      ≡ ending 9 at
   unfolding lines_from binary_read
   binary-other e f k = let here : at + 0 ≡ at = omega arith in rw (lt-ltb at (length s) inside, e, f) (ap (ending 9) here)
 

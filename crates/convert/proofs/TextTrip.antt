@@ -57,7 +57,8 @@ fresh-stops : (left : List ℕ) → Fresh left → Stops is_parting left
 fresh-stops [] f = tt
 fresh-stops (b ∷ bs) f = f.0
 
-between-from : (k : ℕ) {s : List ℕ} {at : ℕ} (xs left : List ℕ) → At s at (xs ++ left) → All is_parting xs → Fresh left → between_from s k at
+between-from : (k : ℕ) {s : List ℕ} {at : ℕ} (xs left : List ℕ) → At s at (xs ++ left) → All is_parting xs → Fresh left →
+    between_from s k at
     ≡ at + length xs
 unfolding between_from is_comment
 between-from zero xs left A a f = past_to is_parting xs left A a (fresh-stops left f)
@@ -71,7 +72,8 @@ between-from (suc k) {s} {at} xs left A a f =
         let (lt, is) = at_byte bs A in
         rw (is, f.1) refl
 
-between-to : {s : List ℕ} {at : ℕ} (xs left : List ℕ) → At s at (xs ++ left) → All is_parting xs → Fresh left → between s at ≡ at + length xs
+between-to : {s : List ℕ} {at : ℕ} (xs left : List ℕ) → At s at (xs ++ left) → All is_parting xs → Fresh left → between s at
+    ≡ at + length xs
 between-to {s} xs left A a f = between-from (length s) xs left A a f
 
 -- ---- digits

@@ -70,5 +70,6 @@ unfolding to_binary to_text
 binary-there-and-back room room' s B z fits =
     let (read, is) = converted-is text_line room (lines_of Binary s) z in
     let (own, small) = binary-own s B read in
-    converted-holds binary_line room' (lines_of Text (result_of (converted_by text_line room (lines_of Binary s)))) (lines_of Binary s).lines s
+    converted-holds binary_line room' (lines_of Text (result_of (converted_by text_line room (lines_of Binary s))))
+    (lines_of Binary s).lines s
     (ap (lines_of Text) is ∙ text-trip (lines_of Binary s).lines small) own fits

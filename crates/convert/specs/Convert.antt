@@ -1,5 +1,6 @@
 -- DRAT text to binary DRAT and back. (02, 9/14)
-use Rattle.std.specs.Prelude.{Bool, true, false, cond, List, [], ◌∷◌, ◌++◌, ℕ, zero, suc, ◌+◌, ◌-◌, ◌*◌, ◌/◌, ◌%◌, length, replicate, eqb, ltb, leb}
+use Rattle.std.specs.Prelude.{Bool, true, false, cond, List, [], ◌∷◌, ◌++◌, ℕ, zero, suc, ◌+◌, ◌-◌, ◌*◌, ◌/◌, ◌%◌, length, replicate, eqb}
+use Rattle.std.specs.Prelude.{ltb, leb}
 use Rattle.std.proofs.Math.Seq.{slice}
 use Rattle.meaning.specs.Operations.{Literal}
 use Rattle.dimacs.specs.Text.{past, token_end, between_from, between}

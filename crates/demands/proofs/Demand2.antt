@@ -124,7 +124,8 @@ pub added-exactly : (form : Form) → is_drat form ≡ true → (s : ℕ) (text 
     Reached (in_form form false) s text proof n st at m
     → (c : Clause) → command_in (in_form form false) proof n at ≡ added c → AllPlain (live_clauses (in_form form false) text proof at) →
     Plain c → (t : List Node) (k : ℕ) → HasRoom n s st c t k
-    → StepGoesOn (step false n s st (command_in (in_form form false) proof n at)) ↔ Accepted (live_clauses (in_form form false) text proof at) c
+    → StepGoesOn (step false n s st (command_in (in_form form false) proof n at)) ↔ Accepted
+    (live_clauses (in_form form false) text proof at) c
 added-exactly = TextRules.added-exactly
 
 -- Else it is refused with 19.

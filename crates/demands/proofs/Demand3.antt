@@ -64,7 +64,8 @@ pub one_value : (c : Columns) (count : ℕ) (a : Assignment) → value_at c coun
 one_value = Words.one_value
 
 pub node-value : (c : Columns) (count : ℕ) → in_good_order c count ≡ true → (k : ℕ) → 2 ≤ k → k < count → (a : Assignment)
-    → value_at c count k a ≡ cond (holds a (at (nodes_of_columns c count) k).var) (value_at c count (at (nodes_of_columns c count) k).high a)
+    → value_at c count k a ≡ cond (holds a (at (nodes_of_columns c count) k).var)
+    (value_at c count (at (nodes_of_columns c count) k).high a)
     (value_at c count (at (nodes_of_columns c count) k).low a)
 node-value = Words.node-value
 

@@ -15,7 +15,8 @@ use Rattle.meaning.specs.Reduced.{Reduced}
 use Rattle.meaning.proofs.Canonical.{reduced-from}
 use Rattle.table.specs.Nodes.{Node, node_of, at, diagram_at, Placing, full, placed, find, or_append, put, and_then, place}
 use Rattle.table.proofs.Order.{same-node, Ordered}
-use Rattle.table.proofs.Numbers.{Kind, is_zero, is_one, from-two, kind, diagram_at-zero, diagram_at-one, diagram_at-node, diagram_at-injective}
+use Rattle.table.proofs.Numbers.{Kind, is_zero, is_one, from-two, kind, diagram_at-zero, diagram_at-one, diagram_at-node}
+use Rattle.table.proofs.Numbers.{diagram_at-injective}
 use Rattle.table.proofs.Growth.{extends-length, diagram_at-grown}
 use Rattle.table.proofs.Placing.{Found, found, After, place_after}
 use Rattle.demands.specs.Full.{Part, whole, in-low, in-high, Wants}

@@ -121,12 +121,14 @@ module _ (ms : List Diagram) (z : AllFalse ms) where
   zero-rounds = refl
 
   zero-fits : (line_reach 4096 emptied line).fits ≡ true
-  unfolding rup unit_prop propagate conflicts any same line_reach turns_reach placed_all place meaning.negation meaning.cofactor meaning.nearest
+  unfolding rup unit_prop propagate conflicts any same line_reach turns_reach placed_all place meaning.negation meaning.cofactor
+      meaning.nearest
       value_from diagram_from same? ℕ_discrete
   zero-fits = rw (constants-fit ms z)
 
   zero-peak : (line_reach 4096 emptied line).peak ≡ 2
-  unfolding rup unit_prop propagate conflicts any same line_reach turns_reach placed_all place meaning.negation meaning.cofactor meaning.nearest
+  unfolding rup unit_prop propagate conflicts any same line_reach turns_reach placed_all place meaning.negation meaning.cofactor
+      meaning.nearest
       value_from diagram_from same? ℕ_discrete
   zero-peak = rw (constants-fit ms z)
 

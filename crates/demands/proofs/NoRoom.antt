@@ -197,7 +197,8 @@ module _ {s n : ℕ} {m : Meant} {st : State} (S : Standing s n m st) (narrow : 
 
     tries-want : (profile : Bool) → tries profile n s (with_entry st t k) k ls ≡ spent 23 peak → ClauseWants n s st ls
     unfolding tries judged_or
-    tries-want profile e = go (line_reach s t (first_line n (with_entry st t k) ls)).fits refl (first_line n (with_entry st t k) ls).shown refl
+    tries-want profile e = go (line_reach s t (first_line n (with_entry st t k) ls)).fits refl (first_line n (with_entry st t k) ls).shown
+        refl
         e
       where
         after : State

@@ -26,7 +26,8 @@ use Rattle.records.specs.declared.Record.TheVariants.{NoRecord}
 use Rattle.commands.specs.declared.Form.{Form}
 use Rattle.commands.specs.declared.Form.TheVariants.{Records, Text, Binary}
 use Rattle.commands.specs.Commands.{Command, recorded, added, struck_out, wrong, finished}
-use Rattle.verdict.specs.Steps.{State, with_entry, Step, next, stop, spent, is_entry, entry_node, is_variable, entered, node_step, witness_step}
+use Rattle.verdict.specs.Steps.{State, with_entry, Step, next, stop, spent, is_entry, entry_node, is_variable, entered, node_step}
+use Rattle.verdict.specs.Steps.{witness_step}
 use Rattle.verdict.specs.Steps.{waiting, accepted, judged, diagram_in, live_members, line_step, is_live, strike_step, beyond, no_parity}
 use Rattle.verdict.specs.Steps.{set_diagram, set_step, end_step, record_step}
 use Rattle.verdict.specs.Clausal.{with_peak, judged_or, second_line, second_try, after_first, tries, once_made, add_step}

@@ -102,7 +102,8 @@ Narrows n (refused number place) y = Unit {0}
 Narrows n ended y = Unit {0}
 
 literal-narrows : (n v : ℕ) (b : Bool) (first at end : ℕ) (x y : Next) → Narrows n x y
-    → Narrows n (literal_then (record { variable = v; positive = b }) x) (after_token (cond (leb v n) (Literal v b) (Wrong 4)) first at end y)
+    → Narrows n (literal_then (record { variable = v; positive = b }) x)
+    (after_token (cond (leb v n) (Literal v b) (Wrong 4)) first at end y)
 unfolding within_all
 literal-narrows n v b first at end (refused number place) y N = tt
 literal-narrows n v b first at end ended y N = tt
@@ -223,7 +224,8 @@ command-narrows Binary drat n narrow s at =
     let other : ℕ → Read = λ m. cond (eqb (get_or s at 0) 0x64) (striking m) (reading (wrong 9 0) at) in
     either n at (ltb at (length s)) (cond (eqb (get_or s at 0) 0x61) (adding 64) (other 64)) (reading finished at)
     (cond (eqb (get_or s at 0) 0x61) (adding n) (other n)) (reading finished at)
-    (either n at (eqb (get_or s at 0) 0x61) (adding 64) (other 64) (adding n) (other n) (adds-narrow n at (λ next. next) (body 64) (body n) N)
+    (either n at (eqb (get_or s at 0) 0x61) (adding 64) (other 64) (adding n) (other n)
+    (adds-narrow n at (λ next. next) (body 64) (body n) N)
     (either n at (eqb (get_or s at 0) 0x64) (striking 64) (reading (wrong 9 0) at) (striking n) (reading (wrong 9 0) at)
     (strikes-narrow n at (λ next. next) (body 64) (body n) N) tt)) refl
 
@@ -356,7 +358,8 @@ module _ (profile : Bool) (s : ℕ) (text binary : List ℕ) (t : (lines_of Text
       go (full t) ih = refl
       go (placed t k) ih = ih t k
 
-  header-stays : (formula : List ℕ) (h : Header) → HeaderIn formula h → placeless (check_after_header (in_form Text profile) s formula text h)
+  header-stays : (formula : List ℕ) (h : Header) → HeaderIn formula h →
+      placeless (check_after_header (in_form Text profile) s formula text h)
       ≡ placeless (check_after_header (in_form Binary profile) s formula binary h)
   header-stays formula (Improper number place) I = refl
   header-stays formula (Proper n many at) I = clauses-stay n I.0 emptied [] (clauses_from formula n many at)
@@ -390,7 +393,8 @@ to-text-stays profile room s formula binary B z =
     let (own, small) = binary-own binary B read in
     let back : lines_of Text (result_of (converted_by text_line room (lines_of Binary binary))) ≡ whole (lines_of Binary binary).lines =
     ap (lines_of Text) is ∙ text-trip (lines_of Binary binary).lines small in
-    sym (verdict-stays profile s (result_of (converted_by text_line room (lines_of Binary binary))) binary (ap (λ (r : Lines). r.number) back)
+    sym (verdict-stays profile s (result_of (converted_by text_line room (lines_of Binary binary))) binary
+    (ap (λ (r : Lines). r.number) back)
     read (ap (λ (r : Lines). r.lines) back) formula)
 
 -- ---- the call

@@ -106,7 +106,8 @@ unfolding value_from
 one_value c count a = ap (λ (D : Diagram). value D a) (diagram_at-one (nodes_of_columns c count))
 
 pub node-value : (c : Columns) (count : ℕ) → in_good_order c count ≡ true → (k : ℕ) → 2 ≤ k → k < count → (a : Assignment)
-    → value_at c count k a ≡ cond (holds a (at (nodes_of_columns c count) k).var) (value_at c count (at (nodes_of_columns c count) k).high a)
+    → value_at c count k a ≡ cond (holds a (at (nodes_of_columns c count) k).var)
+    (value_at c count (at (nodes_of_columns c count) k).high a)
     (value_at c count (at (nodes_of_columns c count) k).low a)
 unfolding value_from
 node-value c count order k two inside a =

@@ -57,7 +57,8 @@ module _ (s : List ℕ) where
       ∙ sym (between-stop zero at (outside at (omega arith)))
   between-fuel (suc k) (suc m) at h g = by (is_comment s (past is_parting s at))
       (λ e. between-comment k at e
-      ∙ between-fuel k m (line_end s (past is_parting s at)) (omega (arith, comment-moves (past is_parting s at) e, past-least is_parting s at))
+      ∙ between-fuel k m (line_end s (past is_parting s at))
+      (omega (arith, comment-moves (past is_parting s at) e, past-least is_parting s at))
       (omega (arith, comment-moves (past is_parting s at) e, past-least is_parting s at))
       ∙ sym (between-comment m at e))
       (λ e. between-stop (suc k) at e ∙ sym (between-stop (suc m) at e))

@@ -56,7 +56,8 @@ header-at-in s at h =
     let end = past-most is_line s clauses (word_in s variables (word_in s cnf (word_in s at h))) in
     cond-in s (is_header s at cnf variables clauses) (cond (leb v 64 && leb c 1024) (Proper v c (line_end s clauses)) (Improper 2 at))
     (Improper 1 at)
-    (λ f. cond-in s (leb v 64 && leb c 1024) (Proper v c (line_end s clauses)) (Improper 2 at) (λ e. ((limits v c e).0, (limits v c e).1, end))
+    (λ f. cond-in s (leb v 64 && leb c 1024) (Proper v c (line_end s clauses)) (Improper 2 at)
+    (λ e. ((limits v c e).0, (limits v c e).1, end))
     h)
     h
 
@@ -100,7 +101,8 @@ module _ (s : List ℕ) (n first : ℕ) (inside : first < length s) where
       by (ltb at (length s))
       (λ t. let here : at < length s = ltb-true at (length s) t in
       subst (NextIn s n) (sym (clause-suc s n k first at here))
-      (after-in (token_at s n at) at (token_end s at) (clause_from s n k first (next_at s n at)) here (past-most is_token s at (omega arith))
+      (after-in (token_at s n at) at (token_end s at) (clause_from s n k first (next_at s n at)) here
+      (past-most is_token s at (omega arith))
       (λ v b e. let l = literal-bounds n (slice at (token_end s at) s) v b e in (l.least, l.most)) (clause-in k (next_at s n at))))
       (λ f. subst (NextIn s n) (sym (clause-end s n (suc k) first at (ltb-false at (length s) f))) (omega arith))
 

@@ -41,7 +41,8 @@ module _ (s : List ℕ) (at : ℕ) (inside : at < length s) where
   pub judged-stop : is_passed s at ≡ false → judged_from s (length s - at) at ≡ at
   judged-stop e = rw steps (judged-suc s (length s - (at + 1)) at ∙ rw (lt-ltb at (length s) inside, e))
 
-  pub judged-go : is_passed s at ≡ true → judged_from s (length s - at) at ≡ judged_from s (length s - (line_end s at + 1)) (line_end s at + 1)
+  pub judged-go : is_passed s at ≡ true → judged_from s (length s - at) at
+      ≡ judged_from s (length s - (line_end s at + 1)) (line_end s at + 1)
   judged-go e =
       rw steps
       (judged-suc s (length s - (at + 1)) at ∙ rw (lt-ltb at (length s) inside, e, add-one (line_end s at))

@@ -46,7 +46,8 @@ module _ (s : List ℕ) (n : ℕ) where
   clause-suc k first at h = rw (lt-ltb at (length s) h)
 
   -- A literal's token has bytes, so the next token lies behind it.
-  pub literal-moves : (at end v : ℕ) (b : Bool) → at < length s → end ≡ token_end s at → token_of n (slice at end s) ≡ Literal v b → at < end
+  pub literal-moves : (at end v : ℕ) (b : Bool) → at < length s → end ≡ token_end s at → token_of n (slice at end s) ≡ Literal v b →
+      at < end
   literal-moves at end v b h is e =
       let most : end ≤ length s = rw is (past-most is_token s at (omega arith)) in
       omega (arith, (literal-bounds n (slice at end s) v b e).some, length-slice at end s most)
@@ -96,7 +97,8 @@ module _ (s : List ℕ) (n first : ℕ) (u : Literals) (at : ℕ) where
     steps = omega arith
 
     here : rest_of s n first u at
-        ≡ clause_after u (after_token (token_at s n at) first at (token_end s at) (clause_from s n (length s - (at + 1)) first (next_at s n at)))
+        ≡ clause_after u (after_token (token_at s n at) first at (token_end s at)
+        (clause_from s n (length s - (at + 1)) first (next_at s n at)))
     here = rw steps (ap (clause_after u) (clause-suc s n (length s - (at + 1)) first at inside))
 
     module _ (end : ℕ) (is : end ≡ token_end s at) where

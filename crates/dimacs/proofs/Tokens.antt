@@ -74,10 +74,12 @@ module _ (n : ℕ) (s : List ℕ) (from to : ℕ) (small : n ≤ 1024) (inside :
   pub token-empty : from ≡ to → token_of n (slice from to s) ≡ Wrong 3
   token-empty e = rw (e, slice_empty to s) (token-none n)
 
-  pub token-signed : from < to → get_or s from 0 ≡ 45 → token_of n (slice from to s) ≡ signed_token n false (natural_of (slice (from + 1) to s))
+  pub token-signed : from < to → get_or s from 0 ≡ 45 → token_of n (slice from to s)
+      ≡ signed_token n false (natural_of (slice (from + 1) to s))
   token-signed h e = rw (slice-cons from to s 0 h inside, e, add-one) (token-minus n small (slice (suc from) to s))
 
-  pub token-unsigned : from < to → (get_or s from 0 ≡ 45 → ⊥) → token_of n (slice from to s) ≡ signed_token n true (natural_of (slice from to s))
+  pub token-unsigned : from < to → (get_or s from 0 ≡ 45 → ⊥) → token_of n (slice from to s)
+      ≡ signed_token n true (natural_of (slice from to s))
   token-unsigned h e =
       rw (slice-cons from to s 0 h inside) (token-plain n small (get_or s from 0) (slice (suc from) to s) (ne_eqb (get_or s from 0) 45 e))
 

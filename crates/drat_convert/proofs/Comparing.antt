@@ -32,7 +32,8 @@ drop_past (x ∷ xs) zero h = absurd (omega arith)
 drop_past (x ∷ xs) (suc i) h = drop_past xs i (omega arith)
 
 module _ (a b : List ℕ) (i : ℕ) (e : length a ≡ length b) where
-  pub alike-here : i < length a → get_or a i 0 ≡ get_or b i 0 → same_bytes (drop i a) (drop i b) ≡ same_bytes (drop (i + 1) a) (drop (i + 1) b)
+  pub alike-here : i < length a → get_or a i 0 ≡ get_or b i 0 → same_bytes (drop i a) (drop i b)
+      ≡ same_bytes (drop (i + 1) a) (drop (i + 1) b)
   unfolding same_bytes
   alike-here h q = rw (drop-cons a i 0 h, drop-cons b i 0 (omega arith), eq-eqb (get_or a i 0) (get_or b i 0) q, add-one)
 

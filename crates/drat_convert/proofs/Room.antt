@@ -16,7 +16,8 @@ use Rattle.dimacs.specs.Numbers.{is_zero}
 use Rattle.dimacs.proofs.Runs.{past-least, past-most}
 use Rattle.dimacs.proofs.Between.{between-least, between-most}
 use Rattle.commands.specs.declared.Form.TheVariants.{Text, Binary}
-use Rattle.convert.specs.Convert.{Lines, lines_of, code_of, groups_of, binary_literals, binary_line, token_text, text_literals, text_line, printed}
+use Rattle.convert.specs.Convert.{Lines, lines_of, code_of, groups_of, binary_literals, binary_line, token_text, text_literals, text_line}
+use Rattle.convert.specs.Convert.{printed}
 use Rattle.convert.specs.Convert.{converted_by, to_binary, to_text, plain_from, plain}
 use Rattle.convert.proofs.Canonical.{Bytes, binary-own}
 use Rattle.convert.proofs.Plain.{text-own}

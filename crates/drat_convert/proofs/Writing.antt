@@ -11,7 +11,8 @@ use borrow.Author.Tests.{lt-ltb, le-ltb, leb-true}
 use Rattle.convert.specs.declared.Converted.{Converted}
 use Rattle.meaning.specs.Operations.{Literal}
 use Rattle.commands.specs.declared.Form.TheVariants.{Text, Binary}
-use Rattle.convert.specs.Convert.{Lines, lines_of, binary_line, text_line, printed, Conversion, conversion_of, settled, converted_by, to_binary}
+use Rattle.convert.specs.Convert.{Lines, lines_of, binary_line, text_line, printed, Conversion, conversion_of, settled, converted_by}
+use Rattle.convert.specs.Convert.{to_binary}
 use Rattle.convert.specs.Convert.{to_text}
 use Rattle.dimacs.proofs.Cases.{by}
 use Rattle.drat_convert.specs.Converting.{conversion_line, conversion_to, written_for}

@@ -93,7 +93,8 @@ set-64 n Parity b narrow within = parity-of-word n 64 b.set (eqb b.byte 1) narro
 set-64 n AtLeast b narrow within = at_least-of-word n 64 b.set b.byte narrow within
 
 -- the diagram of a record's kind, made in the table
-pub kind-made : (T : Table) (kind kind' : SetKind) (b : SetBody) → kind ≡ kind' → (o : Outcome) → o ≡ place_in T (set_diagram 64 kind' b) → o
+pub kind-made : (T : Table) (kind kind' : SetKind) (b : SetBody) → kind ≡ kind' → (o : Outcome) → o ≡ place_in T (set_diagram 64 kind' b) →
+    o
     ≡ place_in T (set_diagram 64 kind b)
 kind-made T kind kind' b e o made = made ∙ ap (λ (k : SetKind). place_in T (set_diagram 64 k b)) (sym e)
 

@@ -223,7 +223,8 @@ module _ (profile : Bool) {s n : ℕ} {m : Meant} {st : State} (S : Standing s n
     -- no second try, since the first has no room, or the clause is empty
     first_ends : ((t₂ : List Node) (i : ℕ) (p : meaning.Literal) (rest : List meaning.Literal) → profile ≡ false → ls ≡ p ∷ rest →
         place s st.nodes D ≡ placed t₂ i
-        → (line_reach s t₂ (first_line n (with_entry st t₂ i) ls)).fits ≡ true → ⊥) → Greatest (λ k. P k ⊎ AddedPasses profile n s st ls k) p₁
+        → (line_reach s t₂ (first_line n (with_entry st t₂ i) ls)).fits ≡ true → ⊥) →
+        Greatest (λ k. P k ⊎ AddedPasses profile n s st ls k) p₁
     first_ends no_second = mapped (λ k. (P k ⊎ C k) ⊎ F k) (λ k. P k ⊎ AddedPasses profile n s st ls k) p₁ to from both
       where
         to : (k : ℕ) → (P k ⊎ C k) ⊎ F k → P k ⊎ AddedPasses profile n s st ls k
@@ -275,7 +276,8 @@ module _ (profile : Bool) {s n : ℕ} {m : Meant} {st : State} (S : Standing s n
     unfolding tries judged_or
     tries-ends number peak q = go (line_reach s t first).fits refl first.shown refl q
       where
-        no_room : (line_reach s t first).fits ≡ false → (t₂ : List Node) (i : ℕ) (p : meaning.Literal) (rest : List meaning.Literal) → profile
+        no_room : (line_reach s t first).fits ≡ false → (t₂ : List Node) (i : ℕ) (p : meaning.Literal) (rest : List meaning.Literal) →
+            profile
             ≡ false → ls ≡ p ∷ rest
             → place s st.nodes D ≡ placed t₂ i → (line_reach s t₂ (first_line n (with_entry st t₂ i) ls)).fits ≡ true → ⊥
         no_room is t₂ i p rest w l f a =

@@ -40,7 +40,8 @@ module _ (op : Operation) (c : Columns) (count f g : ℕ) where
           let number : ℕ = cond (not p) 7 (cond (not q) 26 (cond (ltb f count && ltb g count) 0 13)) in
           let done : Made = made_by c count (place (length c.vars) (nodes_of_columns c count)
           (result op (diagram_at (nodes_of_columns c count) f) (diagram_at (nodes_of_columns c count) g))) in
-          cond (eqb number 0) (cond (eqb (operand_refusal op g) 0) done (unchanged c count (operand_refusal op g))) (unchanged c count number)
+          cond (eqb number 0) (cond (eqb (operand_refusal op g) 0) done (unchanged c count (operand_refusal op g)))
+          (unchanged c count number)
 
       go : (p q : Bool) → (says p q).number ≢ 7 → (says p q).number ≢ 26 → q ≡ true
       go true true a b = refl

@@ -55,7 +55,8 @@ pub one_placed : (s : ℕ) (t : List Node) (D : Diagram) (t₁ : List Node) (k :
 unfolding placed_all
 one_placed s t D t₁ k e = rw e
 
-placed-more : (s : ℕ) (t : List Node) (Ds Es : List Diagram) (t₁ t₂ : List Node) → placed_all s t Ds ≡ all t₁ → placed_all s t₁ Es ≡ all t₂ →
+placed-more : (s : ℕ) (t : List Node) (Ds Es : List Diagram) (t₁ t₂ : List Node) → placed_all s t Ds ≡ all t₁ → placed_all s t₁ Es
+    ≡ all t₂ →
     placed_all s t (Ds ++ Es) ≡ all t₂
 placed-more s t Ds Es t₁ t₂ d e = placed-then s t Ds Es t₁ d ∙ e
 

@@ -29,7 +29,8 @@ unfolding verdict clauses_from place clause diagram_from same? record_at above r
 line-order = (refl, (refl, (refl, (refl, (refl, (refl, (refl, tt)))))))
 
 pub other-order : GivesAll other_order
-unfolding verdict clauses_from place clause diagram_from same? record_at above rup pr witnessed value_from diagram_at ℕ_discrete in_word parity
+unfolding verdict clauses_from place clause diagram_from same? record_at above rup pr witnessed value_from diagram_at ℕ_discrete in_word
+    parity
     at_least
 other-order = (refl, (refl, (refl, (refl, (refl, (refl, (refl, tt)))))))
 

@@ -58,7 +58,8 @@ module _ (s : ℕ) where
               let q : u ≡ t₁ = ap nodes_after (sym f ∙ e) in (rec t₁).most j (subst (λ (x : List Node). Passes s x Ds j) q P)
 
   not-room : {A : Type 0} {t t₁ : List Node} (r : Room) → r ≡ short t → r ≡ all t₁ → A
-  not-room r e f = let z : ◌≡◌ {A = Bool} false true = sym (ap (λ (x : Room). (reached x).fits) e) ∙ ap (λ (x : Room). (reached x).fits) f in
+  not-room r e f = let z : ◌≡◌ {A = Bool} false true = sym (ap (λ (x : Room). (reached x).fits) e)
+      ∙ ap (λ (x : Room). (reached x).fits) f in
       t≢f (sym z)
 
   turn-peak : (t : List Node) (turns : List (List Diagram)) → Greatest (TurnPasses s t turns) (turns_reach s turns t).peak

@@ -27,7 +27,8 @@ use Rattle.commands.specs.Commands.{Command, recorded, added, struck_out, wrong,
 use Rattle.verdict.specs.Steps.{State, Step, next, stop, spent, with_entry, entered, entry_node, assigned, with_witness, with_marks, judged}
 use Rattle.verdict.specs.Steps.{live_members, diagram_in, set_diagram}
 use Rattle.verdict.specs.Steps.{node_step, witness_step, line_step, strike_step, set_step, end_step, record_step}
-use Rattle.verdict.specs.Clausal.{with_peak, judged_or, second_line, second_try, after_first, tries, once_made, add_step, first_same, strike_found}
+use Rattle.verdict.specs.Clausal.{with_peak, judged_or, second_line, second_try, after_first, tries, once_made, add_step, first_same}
+use Rattle.verdict.specs.Clausal.{strike_found}
 use Rattle.verdict.specs.Clausal.{strike_clause}
 use Rattle.verdict.specs.Check.{shut_out, step}
 use Rattle.meaning.specs.Words.{in_word}

@@ -10,7 +10,8 @@ use Prim.Native.Nat.{ℕ, zero, suc, ◌+◌, ◌≤◌, ◌<◌}
 use native.Mathlib.Omega.{arith}
 use Rattle.meaning.specs.Diagram.{Diagram, leaf, same}
 use Rattle.meaning.specs.Operations.{negation, cofactor_literals}
-use Rattle.meaning.specs.Rules.{any, conflicts, first_with_unit, by_units, by_diagram, Propagation, round, still, taking, propagate, unit_prop}
+use Rattle.meaning.specs.Rules.{any, conflicts, first_with_unit, by_units, by_diagram, Propagation, round, still, taking, propagate}
+use Rattle.meaning.specs.Rules.{unit_prop}
 use Rattle.meaning.proofs.Booleans.{or-neither}
 use Rattle.meaning.proofs.Pointwise.{literals-reduced}
 use Rattle.meaning.proofs.Ends.{AllReduced, map-reduced, by_diagram-reduced, by_units-reduced, first_taken, in_use, fewer, more-rounds}

@@ -123,7 +123,8 @@ word-assignment (b ∷ a) = ap₂ ◌∷◌ (in_top b (word_of a)) (truth-next 1
 
 -- THEOREM: where nothing is of wrong size, the answer's numbers are those of the explanation's cause.
 pub why-told : (mode : Mode) (c : Columns) (count : ℕ) (members struck scratch words text proof : List ℕ)
-    → (leb 128 (length words) && lent_fits c members struck scratch) ≡ true → (why mode c count members struck scratch words text proof).told
+    → (leb 128 (length words) && lent_fits c members struck scratch) ≡ true →
+    (why mode c count members struck scratch words text proof).told
     ≡ told (length words) (explanation mode (length c.vars) text proof).cause
 unfolding why
 why-told mode c count members struck scratch words text proof fits = ap (λ (o : WhyOutcome). o.told) (chosen _ _ _ fits)

@@ -39,11 +39,13 @@ module _ (column : List ℕ) (from to : ℕ) where
   pub gathered_none : from ≤ to → Gathered column from to from 0
   gathered_none h = record { least = omega arith; most = h; zeros = λ _ k a b. absurd (omega arith); zero = λ _. refl }
 
-  pub gathered_next : (i all : ℕ) → Gathered column from to i all → i < to → Gathered column from to (i + 1) (bit_or all (get_or column i 0))
+  pub gathered_next : (i all : ℕ) → Gathered column from to i all → i < to →
+      Gathered column from to (i + 1) (bit_or all (get_or column i 0))
   gathered_next i all G more = record {
     least = omega (arith, G.least);
     most = omega arith;
-    zeros = λ e. one_more (λ k. get_or column k 0 ≡ 0) from i (G.zeros (or_left all (get_or column i 0) e)) (or_right all (get_or column i 0) e);
+    zeros = λ e. one_more (λ k. get_or column k 0 ≡ 0) from i (G.zeros (or_left all (get_or column i 0) e))
+        (or_right all (get_or column i 0) e);
     zero = λ E. or-both all (get_or column i 0) (G.zero (λ k a b. E k a (omega arith))) (E i G.least (omega arith));
   }
 

@@ -13,7 +13,8 @@ use Rattle.meaning.specs.Operations as meaning
 use Rattle.dimacs.specs.declared.Token.{Token}
 use Rattle.dimacs.specs.declared.Token.TheVariants.{Closing, Literal, Wrong}
 use Rattle.dimacs.specs.Text.{is_token, token_end, between}
-use Rattle.dimacs.specs.Clauses.{Next, closed, ended, refused, literal_then, after_token, clause_from, next_clause, clause as and_next, complete}
+use Rattle.dimacs.specs.Clauses.{Next, closed, ended, refused, literal_then, after_token, clause_from, next_clause, clause as and_next}
+use Rattle.dimacs.specs.Clauses.{complete}
 use Rattle.dimacs.specs.Clauses.{reading_then, clauses_from}
 use Rattle.dimacs.proofs.Cases.{by, clash}
 use Rattle.dimacs.proofs.OpenClause.{token_at, next_at, clause-suc, clause-end}
@@ -79,7 +80,8 @@ module _ (s : List ℕ) (n : ℕ) where
     stops = past-stops s at is_token;
   }
 
-  module _ (at next v : ℕ) (b : Bool) (ms : List meaning.Literal) (q : token_at s n at ≡ Literal v b) (C : ClauseOf (next_at s n at) next ms)
+  module _ (at next v : ℕ) (b : Bool) (ms : List meaning.Literal) (q : token_at s n at ≡ Literal v b)
+      (C : ClauseOf (next_at s n at) next ms)
     where
       abbrev found : IsSigned n (slice at (token_end s at) s) v b
       found = literal-of n (slice at (token_end s at) s) v b q

@@ -18,7 +18,8 @@ use Rattle.dimacs.specs.Header.{is_word}
 use Rattle.dimacs.specs.Clauses.{Next, closed, ended, refused, clause_from}
 use Rattle.dimacs.proofs.Cases.{clash}
 use Rattle.commands.specs.declared.Form.TheVariants.{Text}
-use Rattle.commands.specs.Commands.{Command, recorded, added, struck_out, wrong, finished, Read, reading, clause_read, text_read, command_at}
+use Rattle.commands.specs.Commands.{Command, recorded, added, struck_out, wrong, finished, Read, reading, clause_read, text_read}
+use Rattle.commands.specs.Commands.{command_at}
 use Rattle.grammar.specs.Parts.{comments, Piece, gap, Parting, parting}
 use Rattle.grammar.specs.Formula.{clause, plain, last_comment, Within}
 use Rattle.grammar.specs.DratText.{Entry, adds, strikes, entry, said, EntryWithin, Rest, end, entry_then, rest, rest_said, RestWithin}
@@ -140,7 +141,8 @@ module _ (s : List ℕ) (n : ℕ) where
           absurd (subst IsClause (sym is ∙ ap (λ (r : Read). r.command) y) clause)
       go true p true q =
           let y : command_at Text s n at ≡ striking = rw (p, q) in
-          struck-of at (ltb-true at (length s) p) q (clause_from s n (length s - between s (at + 1)) at (between s (at + 1))) refl y c clause
+          struck-of at (ltb-true at (length s) p) q (clause_from s n (length s - between s (at + 1)) at (between s (at + 1))) refl y c
+          clause
           is
       go true p false q =
           let y : command_at Text s n at ≡ adding = rw (p, q) in

@@ -18,7 +18,8 @@ module _ (s : List ℕ) where
   enough-lines k h = judged-fuel s k (length s) 0 (omega arith) (omega arith)
 
   -- The tokens of a clause (`clause_at` starts with the bytes from its first token on).
-  pub enough-tokens : (n k first : ℕ) → length s - first ≤ k → clause_from s n k first first ≡ clause_from s n (length s - first) first first
+  pub enough-tokens : (n k first : ℕ) → length s - first ≤ k → clause_from s n k first first
+      ≡ clause_from s n (length s - first) first first
   enough-tokens n k first h = clause-fuel s n k (length s - first) first first (omega arith) (omega arith)
 
   -- ---- the comment lines between two tokens (`between` starts with the text's length)

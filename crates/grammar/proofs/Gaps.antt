@@ -217,7 +217,8 @@ module _ (s : List ℕ) where
   unfolding is_comment
   inner at b r e n =
       let z : suc at - 1 ≡ at = omega arith in
-      let q : eqb (get_or s (suc at - 1) 0) 10 ≡ false = ap (λ (k : ℕ). eqb (get_or s k 0) 10) z ∙ ap (λ (c : ℕ). eqb c 10) (byte s at b r e)
+      let q : eqb (get_or s (suc at - 1) 0) 10 ≡ false = ap (λ (k : ℕ). eqb (get_or s k 0) 10) z
+      ∙ ap (λ (c : ℕ). eqb c 10) (byte s at b r e)
       ∙ n in
       rw (ne_eqb (suc at) 0 (λ w. absurd (omega arith)), q) (booleans.and-false (eqb (get_or s (suc at) 0) 99))
 

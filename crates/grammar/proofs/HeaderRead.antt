@@ -165,7 +165,8 @@ module _ (s : List ℕ) where
     ends_is : ends_line s at ≡ true
     unfolding ends_line
     ends_is =
-        let token : token_end s at ≡ at + length (number x []) = past-length s at is_token (number x []) (blanks bs r) split (number-token x)
+        let token : token_end s at ≡ at + length (number x []) = past-length s at is_token (number x []) (blanks bs r) split
+        (number-token x)
         (blanks-token bs r h) in
         let rest : drop (token_end s at) s ≡ blanks bs [] ++ r =
         past-rest s at is_token (number x []) (blanks bs r) split (number-token x) (blanks-token bs r h) ∙ blanks-then bs r in

@@ -34,7 +34,8 @@ use Rattle.judge.proofs.Worded.{negation-has, supports-longer}
 -- A number that is not 1 has not the diagram 1.
 pub not-one : (T : Table) → Good T → (g : ℕ) → g < T.count → (g ≡ 1 → ⊥) → diagram_at (nodes_of T) g ≢ leaf true
 not-one T G g inside ne e =
-    ne (diagram_at-injective (nodes_of T) (good-ordered T G) g 1 (omega (arith, length-nodes T G)) (omega (arith, length-nodes T G, G.least))
+    ne (diagram_at-injective (nodes_of T) (good-ordered T G) g 1 (omega (arith, length-nodes T G))
+    (omega (arith, length-nodes T G, G.least))
     (e ∙ sym (diagram_at-one (nodes_of T))))
 
 module _ (T : Table) (list memo : List ℕ) (g : ℕ) (R : Negatable T list memo g) where

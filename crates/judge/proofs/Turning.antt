@@ -235,12 +235,14 @@ module _ (T : Table) (list members : List ℕ) (p n : ℕ) where
       onward : one.shown ≡ true → GoesOn (size T) (nodes_of T) one (line_of (drop (suc i) members))
           (line_of (get_or members i 0 ∷ drop (suc i) members))
       onward =
-          goes_on (size T) (nodes_of T) 64 (in_word p) (in_word n) (diagrams_of (nodes_of T) list) (diagram_at (nodes_of T) (get_or members i 0))
+          goes_on (size T) (nodes_of T) 64 (in_word p) (in_word n) (diagrams_of (nodes_of T) list)
+          (diagram_at (nodes_of T) (get_or members i 0))
           (diagrams_of (nodes_of T) (drop (suc i) members))
 
       last : one.shown ≡ false → Stops (size T) (nodes_of T) one (line_of (get_or members i 0 ∷ drop (suc i) members))
       last =
-          stops (size T) (nodes_of T) 64 (in_word p) (in_word n) (diagrams_of (nodes_of T) list) (diagram_at (nodes_of T) (get_or members i 0))
+          stops (size T) (nodes_of T) 64 (in_word p) (in_word n) (diagrams_of (nodes_of T) list)
+          (diagram_at (nodes_of T) (get_or members i 0))
           (diagrams_of (nodes_of T) (drop (suc i) members))
 
       -- a turn that found no room

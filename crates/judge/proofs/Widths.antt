@@ -39,7 +39,8 @@ module _ (n : ℕ) (most : n ≤ 64) (T : Table) (G : Good T) (uses : UsesTo n (
       pub rup-at : rup 64 (diagrams_of (nodes_of T) members) (diagram_at (nodes_of T) g)
           ≡ rup n (diagrams_of (nodes_of T) members) (diagram_at (nodes_of T) g)
       rup-at =
-          rup-width n 64 most (diagram_at (nodes_of T) g) (reduced g g_inside) (not-one T G g g_inside ne) (diagrams_of (nodes_of T) members)
+          rup-width n 64 most (diagram_at (nodes_of T) g) (reduced g g_inside) (not-one T G g g_inside ne)
+          (diagrams_of (nodes_of T) members)
           (members-reduced members inside)
 
       pub pr-at : (P N : ℕ → Bool) → pr 64 P N (diagrams_of (nodes_of T) members) (diagram_at (nodes_of T) g)

@@ -26,14 +26,17 @@ use Rattle.records.specs.declared.Record.TheVariants.{NodeEntry, Witness, ProofL
 use Rattle.records.specs.declared.Record.TheVariants.{NoRecord}
 use Rattle.clausal.specs.Tries.{makes_true, makes_false, witness}
 use Rattle.commands.specs.Commands.{Command, recorded, added, struck_out, wrong, finished}
-use Rattle.verdict.specs.Steps.{State, with_entry, Step, next, stop, spent, is_entry, entry_node, is_variable, entered, node_step, witness_step}
+use Rattle.verdict.specs.Steps.{State, with_entry, Step, next, stop, spent, is_entry, entry_node, is_variable, entered, node_step}
+use Rattle.verdict.specs.Steps.{witness_step}
 use Rattle.verdict.specs.Steps.{waiting, judged, diagram_in, live_members, line_step, is_live, strike_step, beyond, no_parity}
 use Rattle.verdict.specs.Steps.{set_diagram, set_step, end_step, record_step}
-use Rattle.verdict.specs.Clausal.{with_peak, judged_or, second_line, second_try, after_first, tries, once_made, add_step, first_same, strike_found}
+use Rattle.verdict.specs.Clausal.{with_peak, judged_or, second_line, second_try, after_first, tries, once_made, add_step, first_same}
+use Rattle.verdict.specs.Clausal.{strike_found}
 use Rattle.verdict.specs.Clausal.{strike_clause}
 use Rattle.verdict.specs.Check.{shut_out, step}
 use Rattle.verdict.proofs.Commands.{Known}
-use Rattle.causes.specs.Causes.{Cause, assignment, fixed, offender, variables_of, smallest, fixes, turn_members, unshown, pr_cause, line_cause}
+use Rattle.causes.specs.Causes.{Cause, assignment, fixed, offender, variables_of, smallest, fixes, turn_members, unshown, pr_cause}
+use Rattle.causes.specs.Causes.{line_cause}
 use Rattle.causes.specs.Causes.{record_cause, clause_cause, only, cause}
 use Rattle.causes.proofs.Causes.{has_cause}
 use Rattle.line_again.specs.Before.{with_counts}

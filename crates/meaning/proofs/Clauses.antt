@@ -25,7 +25,8 @@ occurs (l ∷ ls) v s = (eqb l.variable v && beq l.positive s) || occurs ls v s
 unfoldable pub clause_from : (ℕ → Bool) → (ℕ → Bool) → ℕ → ℕ → Diagram
 unfolding branch
 clause_from P N zero i = leaf false
-clause_from P N (suc k) i = branch i (cond (N i) (leaf true) (clause_from P N k (suc i))) (cond (P i) (leaf true) (clause_from P N k (suc i)))
+clause_from P N (suc k) i = branch i (cond (N i) (leaf true) (clause_from P N k (suc i)))
+    (cond (P i) (leaf true) (clause_from P N k (suc i)))
 
 -- ---- both signs of a variable
 
@@ -49,7 +50,8 @@ unfolding clause_from
 clause_from-reduced P N zero i e q = tt
 clause_from-reduced P N (suc k) i e q =
     let o : Reduced (suc i) e (clause_from P N k (suc i)) = clause_from-reduced P N k (suc i) e (omega arith) in
-    branch-reduced i e (cond (N i) (leaf true) (clause_from P N k (suc i))) (cond (P i) (leaf true) (clause_from P N k (suc i))) (omega arith)
+    branch-reduced i e (cond (N i) (leaf true) (clause_from P N k (suc i))) (cond (P i) (leaf true) (clause_from P N k (suc i)))
+    (omega arith)
     (go (N i) o) (go (P i) o)
   where
     go : (b : Bool) → Reduced (suc i) e (clause_from P N k (suc i)) → Reduced (suc i) e (cond b (leaf true) (clause_from P N k (suc i)))

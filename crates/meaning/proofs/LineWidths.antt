@@ -59,7 +59,8 @@ module _ (m n : ℕ) (more : m ≤ n) where
 
       turn : ℕ → Line
       turn k =
-          after_turn (unit_prop k (by_diagram k (negation k h) ms')) (h ∷ negation k h ∷ by_diagram k (negation k h) ms') (pr_turns m P N ms' fs)
+          after_turn (unit_prop k (by_diagram k (negation k h) ms')) (h ∷ negation k h ∷ by_diagram k (negation k h) ms')
+          (pr_turns m P N ms' fs)
 
       go : (b : Bool) → same h (leaf true) ≡ b → cond b (pr_turns m P N ms' fs) (turn n) ≡ cond b (pr_turns m P N ms' fs) (turn m)
       go true e = refl

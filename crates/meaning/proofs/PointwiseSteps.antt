@@ -97,7 +97,8 @@ module _ (n : ℕ) (P N : ℕ → Bool) where
   unfolding cofactor_literals value_from
   literals-leaf b = diagram-is n _ (leaf b) tt (λ a len. refl)
 
-  pub literals-high : (v : ℕ) (l h : Diagram) → 1 ≤ v → v ≤ n → P v ≡ true → cofactor_literals n P N (node v l h) ≡ cofactor_literals n P N h
+  pub literals-high : (v : ℕ) (l h : Diagram) → 1 ≤ v → v ≤ n → P v ≡ true → cofactor_literals n P N (node v l h)
+      ≡ cofactor_literals n P N h
   unfolding cofactor_literals value_from
   literals-high v l h lo hi p = diagram-cong n _ _ λ a len. rw (forced-at P N 1 a v lo (omega arith), p)
 

@@ -55,7 +55,8 @@ unfolding first_with_unit
 first-satisfied n [] a u e s = cc
 first-satisfied n (f ∷ fs) a u e s = go (has_unit n n f) e (λ e'. first-satisfied n fs a u e' s.1)
   where
-    go : (b : Bool) → cond b (some f) (first_with_unit n fs) ≡ some u → (first_with_unit n fs ≡ some u → value u a ≡ true) → value u a ≡ true
+    go : (b : Bool) → cond b (some f) (first_with_unit n fs) ≡ some u → (first_with_unit n fs ≡ some u → value u a ≡ true) → value u a
+        ≡ true
     go true e ih = let p : f ≡ u = cc in rw p at s.0
     go false e ih = ih e
 
@@ -142,7 +143,8 @@ module _ (n : ℕ) (P N : ℕ → Bool) (a : Assignment) (len : length a ≡ n) 
       second = by_diagram n (negation n h) ms'
 
       go : (b : Bool) → same h (leaf true) ≡ b
-          → (cond b (pr_turns n P N ms' fs) (after_turn (unit_prop n second) (h ∷ negation n h ∷ second) (pr_turns n P N ms' fs))).shown ≡ true
+          → (cond b (pr_turns n P N ms' fs) (after_turn (unit_prop n second) (h ∷ negation n h ∷ second) (pr_turns n P N ms' fs))).shown
+          ≡ true
           → ((pr_turns n P N ms' fs).shown ≡ true → Satisfies (forced P N 1 a) fs) → Satisfies (forced P N 1 a) (f ∷ fs)
       go true p e ih = (one-satisfied f p, ih e)
       go false p e ih =

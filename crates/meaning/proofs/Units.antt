@@ -190,7 +190,8 @@ unit-in i e v s (node w l h) o nz u =
 
 module _ (m n : ℕ) (more : m ≤ n) (f : Diagram) (o : Reduced 1 (suc m) f) (v : ℕ) (s : Bool) where
   pub is_unit-width : 1 ≤ v → v ≤ m → is_unit n f v s ≡ is_unit m f v s
-  is_unit-width lo hi = is_unit-is n f v s (reduced-to 1 (suc m) (suc n) f (omega arith) o) lo (omega arith) ∙ sym (is_unit-is m f v s o lo hi)
+  is_unit-width lo hi = is_unit-is n f v s (reduced-to 1 (suc m) (suc n) f (omega arith) o) lo (omega arith)
+      ∙ sym (is_unit-is m f v s o lo hi)
 
   pub is_unit-beyond : m < v → v ≤ n → f ≢ leaf false → is_unit n f v s ≡ false
   is_unit-beyond lo hi nz = is_unit-is n f v s (reduced-to 1 (suc m) (suc n) f (omega arith) o) (omega arith) hi

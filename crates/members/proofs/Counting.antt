@@ -21,7 +21,8 @@ use Rattle.table.proofs.Numbers.{diagram_at-injective}
 use Rattle.members.specs.Made.{differing}
 
 -- numbers differ exactly where diagrams do
-pub same_numbers : (T : Table) → Good T → (j k : ℕ) → j < T.count → k < T.count → same (diagram_at (nodes_of T) j) (diagram_at (nodes_of T) k)
+pub same_numbers : (T : Table) → Good T → (j k : ℕ) → j < T.count → k < T.count →
+    same (diagram_at (nodes_of T) j) (diagram_at (nodes_of T) k)
     ≡ eqb j k
 same_numbers T G j k p q = go (ℕ_discrete j k)
   where
@@ -29,7 +30,8 @@ same_numbers T G j k p q = go (ℕ_discrete j k)
     go (yes e) = eq-same (diagram_at (nodes_of T) j) (diagram_at (nodes_of T) k) (ap (diagram_at (nodes_of T)) e) ∙ sym (eq-eqb j k e)
     go (no n) =
         not-true (same (diagram_at (nodes_of T) j) (diagram_at (nodes_of T) k))
-        (λ z. n (diagram_at-injective (nodes_of T) (good-ordered T G) j k (omega (arith, length-nodes T G)) (omega (arith, length-nodes T G))
+        (λ z. n (diagram_at-injective (nodes_of T) (good-ordered T G) j k (omega (arith, length-nodes T G))
+        (omega (arith, length-nodes T G))
         (same-eq (diagram_at (nodes_of T) j) (diagram_at (nodes_of T) k) z)))
         ∙ sym (ne_eqb j k n)
 

@@ -22,7 +22,8 @@ module _ (n : ℕ) (P N Q M S : ℕ → Bool) (agree : (v : ℕ) → S v ≡ tru
       (literals-agree h (reduced-from 1 (suc v) (suc n) h (omega arith) o.4) u.2)
     where
       go : (p : Bool) → P v ≡ p → (q : Bool) → N v ≡ q → cofactor_literals n P N l ≡ cofactor_literals n Q M l →
-          cofactor_literals n P N h ≡ cofactor_literals n Q M h → cofactor_literals n P N (node v l h) ≡ cofactor_literals n Q M (node v l h)
+          cofactor_literals n P N h ≡ cofactor_literals n Q M h → cofactor_literals n P N (node v l h)
+          ≡ cofactor_literals n Q M (node v l h)
       go true x q y low high =
           literals-high n P N v l h o.0 (omega arith) x ∙ high
           ∙ sym (literals-high n Q M v l h o.0 (omega arith) (sym (agree v u.0).0 ∙ x))
@@ -51,7 +52,9 @@ module _ (p n word v : ℕ) (here : in_word word v ≡ true) where
   shared-is = in_and word (bit_or p n) v ∙ ap (λ (b : Bool). b && in_word (bit_or p n) v) here ∙ in-or p n v
 
   pub cut-positive : in_word (bit_and p (bit_and word (bit_or p n))) v ≡ in_word p v
-  cut-positive = in_and p (bit_and word (bit_or p n)) v ∙ ap (λ (b : Bool). in_word p v && b) shared-is ∙ left-kept (in_word p v) (in_word n v)
+  cut-positive = in_and p (bit_and word (bit_or p n)) v ∙ ap (λ (b : Bool). in_word p v && b) shared-is
+      ∙ left-kept (in_word p v) (in_word n v)
 
   pub cut-negative : in_word (bit_and n (bit_and word (bit_or p n))) v ≡ in_word n v
-  cut-negative = in_and n (bit_and word (bit_or p n)) v ∙ ap (λ (b : Bool). in_word n v && b) shared-is ∙ right_kept (in_word p v) (in_word n v)
+  cut-negative = in_and n (bit_and word (bit_or p n)) v ∙ ap (λ (b : Bool). in_word n v && b) shared-is
+      ∙ right_kept (in_word p v) (in_word n v)

@@ -52,7 +52,8 @@ pub record Replacing (op : Operation) (g : ℕ) (T₀ : Table) (list₀ : List �
   pub so_far : i ≤ length list
   pub done : (k : ℕ) → k < i → Has T (get_or list k 0) (get_or (results op T₀ list₀ g) k (leaf false))
   pub ahead : (k : ℕ) → i ≤ k → get_or list k 0 ≡ get_or list₀ k 0
-  pub to-place : placed_all (size T₀) (nodes_of T₀) (results op T₀ list₀ g) ≡ placed_all (size T₀) (nodes_of T) (drop i (results op T₀ list₀ g))
+  pub to-place : placed_all (size T₀) (nodes_of T₀) (results op T₀ list₀ g)
+      ≡ placed_all (size T₀) (nodes_of T) (drop i (results op T₀ list₀ g))
 
 module _ (op : Operation) (g : ℕ) (T₀ : Table) (list₀ memo₀ : List ℕ) (R : ListReady T₀ list₀ memo₀) (g_inside : g < T₀.count) where
   results-length : length (results op T₀ list₀ g) ≡ length list₀
@@ -110,7 +111,8 @@ module _ (op : Operation) (g : ℕ) (T₀ : Table) (list₀ memo₀ : List ℕ) 
 
     -- the operation has the variables that it had
     pub touches-now : (touching : ℕ) → Touches op (diagram_at (nodes_of T₀) g) touching → Touches op (diagram_at (nodes_of T) g) touching
-    touches-now touching touches = touches-kept op (diagram_at (nodes_of T) g) (diagram_at (nodes_of T₀) g) touching (W.long.kept g g_inside)
+    touches-now touching touches = touches-kept op (diagram_at (nodes_of T) g) (diagram_at (nodes_of T₀) g) touching
+        (W.long.kept g g_inside)
         touches
 
     -- what the operation makes of the member
@@ -195,7 +197,8 @@ module _ (op : Operation) (g : ℕ) (T₀ : Table) (list₀ memo₀ : List ℕ) 
           gained (subst (Support gained) (sym (W.long.kept g g_inside)) gains))))
 
       -- and it is counted where it changed
-      changed : o.full ≡ false → same (get_or (diagrams_of (nodes_of T₀) list₀) i (leaf false)) (get_or (results op T₀ list₀ g) i (leaf false))
+      changed : o.full ≡ false → same (get_or (diagrams_of (nodes_of T₀) list₀) i (leaf false))
+          (get_or (results op T₀ list₀ g) i (leaf false))
           ≡ eqb (get_or list i 0) o.node
       changed f =
           ap₂ same

@@ -134,7 +134,8 @@ word-supported T T' L f k word gained inside old new = go (eqb f k) refl
 -- one member replaced in a table that has grown
 pub supports-replaced : (T T' : Table) → Longer T T' → (list words : List ℕ) → Inside T.count list → length words ≡ length list →
     Supports (nodes_of T) list words
-    → (i k word : ℕ) → i < length list → Support word (diagram_at (nodes_of T') k) → Supports (nodes_of T') (set list i k) (set words i word)
+    → (i k word : ℕ) → i < length list → Support word (diagram_at (nodes_of T') k) →
+    Supports (nodes_of T') (set list i k) (set words i word)
 unfolding Supports
 supports-replaced T T' L list words inside len old i k word p new j q = go (ℕ_discrete j i)
   where

@@ -1,6 +1,7 @@
 -- The memo's cells: what one tells is held, and what is held as a result is stored and as the memo is emptied. The idea: a packed entry has
 -- one reading. Assumes nothing.
-use Rattle.std.proofs.Common.{◌≡◌, ℕ, ◌+◌, ◌*◌, ◌/◌, ◌%◌, ◌<◌, ◌≤◌, ◌⊎◌, List, length, get_or, set, replicate, sym, refl, ap, ◌∙◌, subst, inl, inr, arith, length-set, get_or-set_other, get_or-set_same, eq-eqb, ne_eqb}
+use Rattle.std.proofs.Common.{◌≡◌, ℕ, ◌+◌, ◌*◌, ◌/◌, ◌%◌, ◌<◌, ◌≤◌, ◌⊎◌, List, length, get_or, set, replicate, sym, refl, ap, ◌∙◌, subst}
+use Rattle.std.proofs.Common.{inl, inr, arith, length-set, get_or-set_other, get_or-set_same, eq-eqb, ne_eqb}
 use native.Mathlib.Decide.{ℕ_discrete, dec_lt}
 use Rattle.table.specs.declared.Found.TheVariants.{At, Nothing}
 use Rattle.table.proofs.Zeros.{zeros-at, ZerosBelow}
@@ -211,7 +212,8 @@ memo-zeros memo n step room few zero-cells = record
 
     empty : (i : ℕ) → i < n → ◌≡◌ {A = ℕ} (get_or after (3 + i) 0) 0
     empty i p =
-        get_or-set_other begun 2 (3 + i) step 0 (λ z. absurd (omega arith)) ∙ get_or-set_other memo 0 (3 + i) n 0 (λ z. absurd (omega arith))
+        get_or-set_other begun 2 (3 + i) step 0 (λ z. absurd (omega arith))
+        ∙ get_or-set_other memo 0 (3 + i) n 0 (λ z. absurd (omega arith))
         ∙ zero-cells (3 + i) (omega arith)
 
     nothing : (f g r : ℕ) → Holds after f g r → ⊥

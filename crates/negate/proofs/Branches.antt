@@ -17,7 +17,8 @@ use Rattle.table.specs.declared.Found.TheVariants.{At, Nothing}
 use Rattle.table.specs.Nodes.{Node, node_of, at, diagram_at, find}
 use Rattle.table.specs.Indexed.{Table, nodes_of, Good, found_of}
 use Rattle.table.proofs.Order.{same-node, Ordered, Fits}
-use Rattle.table.proofs.Numbers.{Kind, is_zero, is_one, from-two, kind, diagram_at-zero, diagram_at-one, diagram_at-node, diagram_at-injective}
+use Rattle.table.proofs.Numbers.{Kind, is_zero, is_one, from-two, kind, diagram_at-zero, diagram_at-one, diagram_at-node}
+use Rattle.table.proofs.Numbers.{diagram_at-injective}
 use Rattle.table.proofs.Numbers.{diagram_at-reduced}
 use Rattle.table.proofs.Placing as placing
 use Rattle.walks.proofs.Here.{length-in, ordered-in, node_in, good-readable}
@@ -90,7 +91,8 @@ module _ (T : Table) (G : Good T) where
 
     negation-is : negation 64 (diagram_at t k) ≡ node v (negation 64 (diagram_at t l)) (negation 64 (diagram_at t h))
     negation-is =
-        let r : Reduced 1 65 (node v (diagram_at t l) (diagram_at t h)) = rw is-node at (diagram_at-reduced t O k (omega (arith, count-is))) in
+        let r : Reduced 1 65 (node v (diagram_at t l) (diagram_at t h)) =
+        rw is-node at (diagram_at-reduced t O k (omega (arith, count-is))) in
         ap (negation 64) is-node ∙ negation-node 64 v (diagram_at t l) (diagram_at t h) r
 
     over-negation : (j : ℕ) → j < T.count → diagram_at t j ≡ negation 64 (diagram_at t k) →

@@ -22,7 +22,8 @@ found_in e = cond (eqb (e / 65536 % 2) 1) (At (record { 0 = e % 65536 })) Nothin
 
 -- Each entry that has a node is right.
 unfoldable pub NegationMemo : List ℕ → Table → Type 0
-NegationMemo memo t = (i : ℕ) → i < t.count → 2 ≤ get_or memo i 0 / 131072 → Negates t (get_or memo i 0 / 131072) (found_in (get_or memo i 0))
+NegationMemo memo t = (i : ℕ) → i < t.count → 2 ≤ get_or memo i 0 / 131072 →
+    Negates t (get_or memo i 0 / 131072) (found_in (get_or memo i 0))
 
 -- What the recursion asks.
 pub record NegationReady (memo : List ℕ) (t : Table) (f : ℕ) : Type 0 where

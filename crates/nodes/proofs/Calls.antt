@@ -66,7 +66,8 @@ module _ (ds js : List ℕ) (count set k : ℕ) (ds' js' : List ℕ) (r : AtLeas
   abbrev uncounted : List ℕ → List ℕ → List ℕ → Counted
   uncounted v l h = record { made = unchanged (columns_made v l h ds js) count 7; counted = false; excluded = 0 }
 
-  at-least-refused : (v l h : List ℕ) → size_fits v l h ds js ≡ false → at_least_call (columns_made v l h ds js) count set k ≡ uncounted v l h
+  at-least-refused : (v l h : List ℕ) → size_fits v l h ds js ≡ false → at_least_call (columns_made v l h ds js) count set k
+      ≡ uncounted v l h
   unfolding at_least_call with_count
   at-least-refused v l h e = rw e
 
@@ -98,7 +99,8 @@ module _ (ds js : List ℕ) (count set k : ℕ) (ds' js' : List ℕ) (r : AtLeas
       ≡ at_least_call (columns_made (vars_of ys) (lows_of ys) (highs_of ys) ds js) count set k
   unfolding at_least_within
   at-least-whole ys m vs₀ ls₀ hs₀ vs ls hs cut e told =
-      whole ds js told_of (λ v l h. at_least_call (columns_made v l h ds js) count set k) uncounted at-least-refused at-least-moved ys vs₀ ls₀
+      whole ds js told_of (λ v l h. at_least_call (columns_made v l h ds js) count set k) uncounted at-least-refused at-least-moved ys vs₀
+      ls₀
       hs₀ vs ls hs e m cut told
 
 -- ---- evaluation, which leaves the columns

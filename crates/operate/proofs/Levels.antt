@@ -65,7 +65,8 @@ module _ (t : Table) (G : Good t) where
   is_one k e = ap diagram_of e ∙ diagram_at-one (nodes_of t)
 
   pub zero_is : (k : ℕ) → k < t.count → diagram_of k ≡ leaf false → k ≡ 0
-  zero_is k p e = diagram_at-injective (nodes_of t) O k 0 (omega (arith, len)) (omega (arith, O.two)) (e ∙ sym (diagram_at-zero (nodes_of t)))
+  zero_is k p e = diagram_at-injective (nodes_of t) O k 0 (omega (arith, len)) (omega (arith, O.two))
+      (e ∙ sym (diagram_at-zero (nodes_of t)))
 
   pub one-is : (k : ℕ) → k < t.count → diagram_of k ≡ leaf true → k ≡ 1
   one-is k p e = diagram_at-injective (nodes_of t) O k 1 (omega (arith, len)) (omega (arith, O.two)) (e ∙ sym (diagram_at-one (nodes_of t)))

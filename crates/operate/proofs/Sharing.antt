@@ -74,10 +74,12 @@ module _ (op : Operation) (shared : ℕ) (t : Table) (f g : ℕ) where
       (sharing-side shared o.variable o.which (diagram_at (nodes_of t) f) (diagram_at (nodes_of t) g) s))
 
   -- in a table that has grown
-  pub shared_kept : (u : Table) → diagram_at (nodes_of u) f ≡ diagram_at (nodes_of t) f → diagram_at (nodes_of u) g ≡ diagram_at (nodes_of t) g →
+  pub shared_kept : (u : Table) → diagram_at (nodes_of u) f ≡ diagram_at (nodes_of t) f → diagram_at (nodes_of u) g
+      ≡ diagram_at (nodes_of t) g →
       Shared op shared t f g → Shared op shared u f g
   shared_kept u e q =
-      for-cofactor op shared t u f g f g (sharing-same shared (diagram_at (nodes_of t) f) (diagram_at (nodes_of t) g) (diagram_at (nodes_of u) f)
+      for-cofactor op shared t u f g f g (sharing-same shared (diagram_at (nodes_of t) f) (diagram_at (nodes_of t) g)
+      (diagram_at (nodes_of u) f)
       (diagram_at (nodes_of u) g) (sym e) (sym q))
 
 module _ (t : Table) (G : Good t) (f g : ℕ) (f-inside : f < t.count) (g_inside : g < t.count) where

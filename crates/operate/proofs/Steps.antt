@@ -178,7 +178,8 @@ pub record OneLeft (op : Operation) (t : Table) (f g a b : ℕ) : Type 0 where
   pub side-of : SideOf t f g a b
   pub most : top t.vars f g ≤ 64
   pub after : top t.vars f g < top t.vars a b
-  pub same : result op (diagram_at (nodes_of t) f) (diagram_at (nodes_of t) g) ≡ result op (diagram_at (nodes_of t) a) (diagram_at (nodes_of t) b)
+  pub same : result op (diagram_at (nodes_of t) f) (diagram_at (nodes_of t) g)
+      ≡ result op (diagram_at (nodes_of t) a) (diagram_at (nodes_of t) b)
   pub is : applied t op a b ≡ applied t op f g
 
 -- Both sides are.

@@ -40,7 +40,8 @@ pub rup-own-choice : (n : ℕ) (ms : List Diagram) (g : Diagram) → Propagates 
     (rup n ms g).shown
 rup-own-choice = Rules.rup-own-choice
 
-pub round-fewer : (n : ℕ) (ms : List Diagram) (u : Diagram) → conflicts n ms ≡ false → AllReduced n ms → Among u ms → has_unit n n u ≡ true →
+pub round-fewer : (n : ℕ) (ms : List Diagram) (u : Diagram) → conflicts n ms ≡ false → AllReduced n ms → Among u ms → has_unit n n u
+    ≡ true →
     in_use n (by_units n u ms) < in_use n ms
 round-fewer = UnitProp.round-fewer
 

@@ -37,7 +37,8 @@ rup-more n ms ms' g w t =
     more-members n (by_diagram n (negation n g) ms) (by_diagram n (negation n g) ms') (by_diagram-reduced n (negation n g) ms)
     (by_diagram-reduced n (negation n g) ms') (within-map _ ms ms' w) t
 
-pub rup-same : (n : ℕ) (ms ms' : List Diagram) (g : Diagram) → Contained ms ms' → Contained ms' ms → (rup n ms g).shown ≡ (rup n ms' g).shown
+pub rup-same : (n : ℕ) (ms ms' : List Diagram) (g : Diagram) → Contained ms ms' → Contained ms' ms → (rup n ms g).shown
+    ≡ (rup n ms' g).shown
 rup-same n ms ms' g w w' = both_ways _ _ (rup-more n ms ms' g w) (rup-more n ms' ms g w')
 
 -- ---- PR
@@ -80,7 +81,8 @@ module _ (n : ℕ) (P N : ℕ → Bool) where
 
   passes-within : (ms ms' : List Diagram) → Contained ms ms' → (f : Diagram) → Passes ms f → Passes ms' f
   passes-within ms ms' w f (inl q) = inl q
-  passes-within ms ms' w f (inr q) = inr (more-members n (second ms f) (second ms' f) (by_diagram-reduced n _ ms) (by_diagram-reduced n _ ms')
+  passes-within ms ms' w f (inr q) = inr (more-members n (second ms f) (second ms' f) (by_diagram-reduced n _ ms)
+      (by_diagram-reduced n _ ms')
       (within-map _ ms ms' w) q)
 
   -- Each member has its turn, so that both lists are needed: more members help a turn, but they have turns of their own.
@@ -114,7 +116,8 @@ paths-more n ms ms' w (c ∷ cs) e =
     by-reduced xs = map-reduced n (cofactor_literals n (makes_true c) (makes_false c)) xs
         (λ f. literals-reduced n (makes_true c) (makes_false c) f)
 
-pub path-more : (n : ℕ) (ms ms' : List Diagram) (g : Diagram) → Contained ms ms' → (path_line n ms g).shown ≡ true → (path_line n ms' g).shown
+pub path-more : (n : ℕ) (ms ms' : List Diagram) (g : Diagram) → Contained ms ms' → (path_line n ms g).shown ≡ true →
+    (path_line n ms' g).shown
     ≡ true
 unfolding path_line
 path-more n ms ms' g w t = paths-more n ms ms' w (paths g) t

@@ -41,7 +41,8 @@ module _ (n s : ℕ) (st : State) where
   unfolding judged
   judged-fits g line fits = rw fits (go line.shown)
     where
-      go : (b : Bool) → cond (not b) (spent 19 (peak_with s st line)) (next (accepted st g line (peak_with s st line))) ≡ by_rule s st g line b
+      go : (b : Bool) → cond (not b) (spent 19 (peak_with s st line)) (next (accepted st g line (peak_with s st line)))
+          ≡ by_rule s st g line b
       go true = refl
       go false = refl
 
@@ -85,7 +86,8 @@ accepted-rule : (s : ℕ) (st : State) (g : ℕ) (line : Line) (b : Bool) → b 
 accepted-rule s st g line true e = tt
 accepted-rule s st g line false e = t≢f (sym e)
 
-alike-rule : (s s' : ℕ) (st st' : State) (g g' : ℕ) (line line' : Line) (b : Bool) → Alike (by_rule s st g line b) (by_rule s' st' g' line' b)
+alike-rule : (s s' : ℕ) (st st' : State) (g g' : ℕ) (line line' : Line) (b : Bool) →
+    Alike (by_rule s st g line b) (by_rule s' st' g' line' b)
 alike-rule s s' st st' g g' line line' true = tt
 alike-rule s s' st st' g g' line line' false = refl
 

@@ -146,7 +146,8 @@ module _ (s : ℕ) (t : List Node) where
     abbrev q : Propagation
     q = unit_prop 64 (by_path 64 c ms)
 
-    goes_on : (path_turns 64 ms (c ∷ [])).shown ≡ true → GoesOn (path_turns 64 ms (c ∷ [])) (path_turns 64 ms cs) (path_turns 64 ms (c ∷ cs))
+    goes_on : (path_turns 64 ms (c ∷ [])).shown ≡ true → GoesOn (path_turns 64 ms (c ∷ [])) (path_turns 64 ms cs)
+        (path_turns 64 ms (c ∷ cs))
     unfolding path_turns after_turn
     goes_on = turned_on q.conflict q.rounds (by_path 64 c ms ++ q.made) (path_turns 64 ms cs)
 

@@ -1,5 +1,5 @@
--- The paths are found one after another: the first, and each next one from the words of the one before it; their number is `path_count`. The
--- idea:
+-- The paths are found one after another: the first, and each next one from the words of the one before it; their number is `path_count`.
+-- The idea:
 -- by the diagram's cases; a node's paths are those of its low side and then those of its high side. Assumes nothing.
 use mathlib.Core.Path.{◌≡◌, refl, sym, ap, ap₂, ◌∙◌, subst}
 use mathlib.Core.Logic.{◌≢◌}

@@ -53,7 +53,8 @@ module _ (s : List ℕ) (at : ℕ) where
   unfolding clause_end
   clause-struck from r lt word is e = e ∙ rw (lt-ltb at (length s) lt, word, is)
 
-  pub clause-added : (r : ℕ) → at < length s → is_word s at (100 ∷ []) ≡ false → r ≡ closed_end s (clause_from s 64 (length s - at) at at) → r
+  pub clause-added : (r : ℕ) → at < length s → is_word s at (100 ∷ []) ≡ false → r ≡ closed_end s (clause_from s 64 (length s - at) at at) →
+      r
       ≡ clause_end s at
   unfolding clause_end
   clause-added r lt word e = e ∙ rw (lt-ltb at (length s) lt, word)

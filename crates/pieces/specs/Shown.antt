@@ -7,7 +7,8 @@ use Rattle.pieces.specs.declared.Part.{Part}
 
 -- The end of the piece at the place of a number, in the formula or in the proof.
 abbrev pub piece_end : Form → List ℕ → List ℕ → ℕ → Bool → ℕ → ℕ
-piece_end form formula proof number in_proof at = cond in_proof (causes.proof_end form number proof at) (causes.formula_end number formula at)
+piece_end form formula proof number in_proof at = cond in_proof (causes.proof_end form number proof at)
+    (causes.formula_end number formula at)
 
 -- A part of its text; anything else is empty.
 abbrev pub is_part : Part → List ℕ → Bool

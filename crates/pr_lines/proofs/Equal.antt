@@ -1,5 +1,5 @@
--- The turn of a member whose node had a turn. The idea: a turn is a function of the node's diagram, and the table is the same before each, so
--- the rounds are the same and the count reached is no greater than the peak so far. Assumes nothing.
+-- The turn of a member whose node had a turn. The idea: a turn is a function of the node's diagram, and the table is the same before each,
+-- so the rounds are the same and the count reached is no greater than the peak so far. Assumes nothing.
 use mathlib.Core.Path.{◌≡◌, refl, sym, ap, ◌∙◌, subst}
 use mathlib.Core.Bool.{Bool, true, false, not}
 use mathlib.Core.List.{List, [], ◌∷◌}
@@ -60,7 +60,8 @@ module _ (T : Table) (list : List ℕ) (p n : ℕ) where
           absorbed h = omega arith
 
       -- the turns of all members passed
-      pub turning-passed : (judged : List ℕ) (from start i sum peak : ℕ) → Known judged (Turned peak) → Turning T list members p n from start peak
+      pub turning-passed : (judged : List ℕ) (from start i sum peak : ℕ) → Known judged (Turned peak) →
+          Turning T list members p n from start peak
           → Passes members judged from start i sum → Turning T list members p n i sum peak
       turning-passed judged from start i sum peak known W passes =
           passes-carry members judged from start (λ (j k : ℕ). Turning T list members p n j k peak)

@@ -1,5 +1,5 @@
--- What a look at the members by not-g said holds where a turn has made the member's cofactor by the witness. The idea: nodes that are placed
--- change no diagram. Assumes nothing.
+-- What a look at the members by not-g said holds where a turn has made the member's cofactor by the witness. The idea: nodes that are
+-- placed change no diagram. Assumes nothing.
 use mathlib.Core.Path.{◌≡◌}
 use mathlib.Core.List.{List}
 use Prim.Native.Nat.{ℕ}

@@ -134,7 +134,8 @@ module _ (T : Table) (list memo words : List ℕ) (R : ListReady T list memo) (S
       (Literals u.positive u.negative) refl refl
       (words-apart (get_or words i 0) touching e)
 
-  pub asked-next : conflicts 64 (diagrams_of (nodes_of T) list) ≡ false → Asked (nodes_of T') list' (map (λ i. get_or list' i 0) places) false
+  pub asked-next : conflicts 64 (diagrams_of (nodes_of T) list) ≡ false →
+      Asked (nodes_of T') list' (map (λ i. get_or list' i 0) places) false
   unfolding touching
   asked-next = asked-but (nodes_of T) (nodes_of T') list list' len' places (Untouched words touching) B unchanged
 

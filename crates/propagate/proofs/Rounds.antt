@@ -69,7 +69,8 @@ pub ends_last : (left : ℕ) (ms : List Diagram) → left ≡ 0 → conflicts 64
 ends_last zero ms z c = propagate-last 64 ms ∙ ap still c
 ends_last (suc most) ms z c = absurd (omega arith)
 
-pub ends-still : (left : ℕ) (ms : List Diagram) → conflicts 64 ms ≡ false → first_with_unit 64 ms ≡ none → propagate left 64 ms ≡ still false
+pub ends-still : (left : ℕ) (ms : List Diagram) → conflicts 64 ms ≡ false → first_with_unit 64 ms ≡ none → propagate left 64 ms
+    ≡ still false
 ends-still zero ms c e = propagate-last 64 ms ∙ ap still c
 ends-still (suc most) ms c e = propagate-none most 64 ms c e
 
@@ -183,7 +184,8 @@ module _ (T₀ : Table) (G₀ : Good T₀) (ms₀ : List Diagram) (T : Table) (l
       made : List Diagram
       made = by_units 64 K.member (diagrams_of (nodes_of T) list)
 
-      this-round : propagate (rounds_left rounds) 64 (diagrams_of (nodes_of T) list) ≡ round made (propagate (rounds_left (rounds + 1)) 64 made)
+      this-round : propagate (rounds_left rounds) 64 (diagrams_of (nodes_of T) list)
+          ≡ round made (propagate (rounds_left (rounds + 1)) 64 made)
       unfolding made
       this-round =
           let q : rounds_left rounds ≡ suc (rounds_left (rounds + 1)) = omega arith in

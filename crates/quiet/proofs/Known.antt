@@ -74,7 +74,12 @@ module _ (known list places₀ : List ℕ) where
     few = omega arith;
     within = omega arith;
     room = refl;
-    found = record { inside = λ k p. absurd (omega arith); rising = λ k p. absurd (omega arith); others = λ k j p b q. absurd (omega arith) };
+    found = record {
+      inside = λ k p. absurd (omega arith);
+      rising = λ k p. absurd (omega arith);
+      others =
+          λ k j p b q. absurd (omega arith);
+    };
   }
 
   module _ (places : List ℕ) (i count : ℕ) (D : Differing known list places₀ places i count) (more : i < length known) where

@@ -43,27 +43,28 @@ module _ (n s : ℕ) (l : Lent) (st : State) (H : Held n l st) (r : Record) wher
       go UnknownKind e R = t≢f (sym e)
       go NoRecord e R = t≢f (sym e)
 
-  module _ (other : is_strike r ≡ false) (l' : Lent) (q : Step) (S : Stepped n l l' st (check.record_step n s (state_of l st) false r) q) where
-    pub remade-next : (y : State) → q ≡ Next y → Remade n s l l' st r y
-    remade-next y e x R =
-        let S' : Stepped n l l' st (check.record_step n s (state_of l st) false r) (Next y) =
-        subst (Stepped n l l' st (check.record_step n s (state_of l st) false r)) e S in
-        let is : check.next (state_of l' y) ≡ check.next x = S'.says ∙ redo-next n s (state_of l st) r x other R in
-        (next-is is, S'.leaves)
-      where
-        next-is : {a b : check.State} → check.next a ≡ check.next b → a ≡ b
-        next-is p = cc
+  module _ (other : is_strike r ≡ false) (l' : Lent) (q : Step) (S : Stepped n l l' st (check.record_step n s (state_of l st) false r) q)
+    where
+      pub remade-next : (y : State) → q ≡ Next y → Remade n s l l' st r y
+      remade-next y e x R =
+          let S' : Stepped n l l' st (check.record_step n s (state_of l st) false r) (Next y) =
+          subst (Stepped n l l' st (check.record_step n s (state_of l st) false r)) e S in
+          let is : check.next (state_of l' y) ≡ check.next x = S'.says ∙ redo-next n s (state_of l st) r x other R in
+          (next-is is, S'.leaves)
+        where
+          next-is : {a b : check.State} → check.next a ≡ check.next b → a ≡ b
+          next-is p = cc
 
-    pub remade-stop : (number offset : ℕ) → q ≡ Stop number offset → (y : State) (l'' : Lent) → Remade n s l l'' st r y
-    remade-stop number offset e y l'' x R =
-        let S' : Stepped n l l' st (check.record_step n s (state_of l st) false r) (Stop number offset) =
-        subst (Stepped n l l' st (check.record_step n s (state_of l st) false r)) e S in
-        let is : check.stop number offset ≡ check.next x = S'.says ∙ redo-next n s (state_of l st) r x other R in
-        let z : ◌≡◌ {A = ℕ} 0 1 = cc in absurd (omega arith)
+      pub remade-stop : (number offset : ℕ) → q ≡ Stop number offset → (y : State) (l'' : Lent) → Remade n s l l'' st r y
+      remade-stop number offset e y l'' x R =
+          let S' : Stepped n l l' st (check.record_step n s (state_of l st) false r) (Stop number offset) =
+          subst (Stepped n l l' st (check.record_step n s (state_of l st) false r)) e S in
+          let is : check.stop number offset ≡ check.next x = S'.says ∙ redo-next n s (state_of l st) r x other R in
+          let z : ◌≡◌ {A = ℕ} 0 1 = cc in absurd (omega arith)
 
-    pub remade-spent : (number peak : ℕ) → q ≡ Spent number peak → (y : State) (l'' : Lent) → Remade n s l l'' st r y
-    remade-spent number peak e y l'' x R =
-        let S' : Stepped n l l' st (check.record_step n s (state_of l st) false r) (Spent number peak) =
-        subst (Stepped n l l' st (check.record_step n s (state_of l st) false r)) e S in
-        let is : check.spent number peak ≡ check.next x = S'.says ∙ redo-next n s (state_of l st) r x other R in
-        let z : ◌≡◌ {A = ℕ} 0 1 = cc in absurd (omega arith)
+      pub remade-spent : (number peak : ℕ) → q ≡ Spent number peak → (y : State) (l'' : Lent) → Remade n s l l'' st r y
+      remade-spent number peak e y l'' x R =
+          let S' : Stepped n l l' st (check.record_step n s (state_of l st) false r) (Spent number peak) =
+          subst (Stepped n l l' st (check.record_step n s (state_of l st) false r)) e S in
+          let is : check.spent number peak ≡ check.next x = S'.says ∙ redo-next n s (state_of l st) r x other R in
+          let z : ◌≡◌ {A = ℕ} 0 1 = cc in absurd (omega arith)

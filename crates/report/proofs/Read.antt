@@ -79,7 +79,8 @@ line_read l =
     (field-read l.rounds 32 _ (omega arith) ∙ ap {B = List ℕ} (λ ns. l.rounds ∷ ns) (last-read l.peak 10 (omega arith)))))
 
 -- Whoever reads the number 0 from the line knows that nothing satisfies the formula that was read.
-pub line-refuted : (mode : Mode) (f p : Bool) (formula proof rest : List ℕ) → numbers_of (line_bytes (said mode f formula p proof)) ≡ 0 ∷ rest
+pub line-refuted : (mode : Mode) (f p : Bool) (formula proof rest : List ℕ) → numbers_of (line_bytes (said mode f formula p proof)) ≡ 0 ∷
+    rest
     → (read_to_end (dimacs.formula formula) ≡ true) × ((a : Assignment) → satisfies a (clauses_of (dimacs.formula formula)) ≡ false)
 line-refuted mode f p formula proof rest e =
     said-refuted mode f p formula proof (ap (λ (ns : List ℕ). get_or ns 0 0) (sym (line_read (said mode f formula p proof)) ∙ e))

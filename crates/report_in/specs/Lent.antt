@@ -30,4 +30,5 @@ unfoldable pub report_on : Mode → Columns → List ℕ → List ℕ → List �
 unfolding check of_files
 report_on mode lent members struck scratch is_formula formula is_proof proof =
     let checked = of_check (check mode lent 2 members struck scratch formula proof) in
-    of_files (λ number place. report_outcome lent members struck scratch (file_refused number place)) is_formula formula is_proof proof checked
+    of_files (λ number place. report_outcome lent members struck scratch (file_refused number place)) is_formula formula is_proof proof
+    checked

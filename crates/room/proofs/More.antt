@@ -57,7 +57,8 @@ module _ (s s' : ℕ) (more : s ≤ s') where
   unfolding put
   put-alike t v l h = go (eqb l h) (append-alike t (node_of v l h) (find t (node_of v l h)))
     where
-      go : (c : Bool) → Alike (or_append s t (node_of v l h) (find t (node_of v l h))) (or_append s' t (node_of v l h) (find t (node_of v l h)))
+      go : (c : Bool) → Alike (or_append s t (node_of v l h) (find t (node_of v l h)))
+          (or_append s' t (node_of v l h) (find t (node_of v l h)))
           → Alike (cond c (placed t l) (or_append s t (node_of v l h) (find t (node_of v l h))))
           (cond c (placed t l) (or_append s' t (node_of v l h) (find t (node_of v l h))))
       go true a = refl
@@ -260,7 +261,8 @@ module _ (s s' : ℕ) (more : s ≤ s') where
       rest : ℕ → State → Verdict
       rest k st' = commands steps mode n k proof st' (command_at mode.form proof n at).next
 
-      onward : (x : Step) → (after_step x st at (rest s)).number ≢ 23 → ((st' : State) → (rest s st').number ≢ 23 → rest s st' ≡ rest s' st') →
+      onward : (x : Step) → (after_step x st at (rest s)).number ≢ 23 →
+          ((st' : State) → (rest s st').number ≢ 23 → rest s st' ≡ rest s' st') →
           after_step x st at (rest s) ≡ after_step x st at (rest s')
       onward (stop number offset) ne ih = refl
       onward (spent number peak) ne ih = refl

@@ -5,7 +5,8 @@ use mathlib.Core.Option.{Option, none, some}
 use Prim.Native.Nat.{ℕ, zero, suc, ◌+◌}
 use Rattle.meaning.specs.Diagram.{Diagram, leaf, same}
 use Rattle.meaning.specs.Operations.{Literal, negation, cofactor_literals}
-use Rattle.meaning.specs.Rules.{Line, Propagation, conflicts, first_with_unit, by_units, round, still, taking, propagate, unit_prop, by_diagram}
+use Rattle.meaning.specs.Rules.{Line, Propagation, conflicts, first_with_unit, by_units, round, still, taking, propagate, unit_prop}
+use Rattle.meaning.specs.Rules.{by_diagram}
 use Rattle.meaning.specs.Rules.{rup, pr_turns, pr, after_turn}
 use Rattle.meaning.proofs.Pointwise.{negation-reduced, literals-reduced}
 use Rattle.meaning.proofs.Ends.{AllReduced, by_diagram-reduced, by_units-reduced, map-reduced}

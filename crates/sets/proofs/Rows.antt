@@ -83,7 +83,8 @@ module _ (T₀ : Table) (w d k : ℕ) (row₀ : List ℕ) (R : Row T₀ w d k ro
       full-up o f n (suc j) (omega arith)
       (high-full T₀ R.good (nth w (d + suc j)) (last_of w (d + suc j - 1) (suc j)) (last_of w (d + suc j - 1) (suc j - 1))
       (reduced (d + suc j - 1) (suc j) (omega arith)) (reduced (d + suc j - 1) (suc j - 1) (omega arith))
-      (out_of T₀ (get_or row₀ (suc j) 0)) (row-there (suc j) (omega arith)) refl o (is ∙ ap₂ (λ (n i : ℕ). place_in T₀ (last_of w n i)) a b) f
+      (out_of T₀ (get_or row₀ (suc j) 0)) (row-there (suc j) (omega arith)) refl o (is ∙ ap₂ (λ (n i : ℕ). place_in T₀ (last_of w n i)) a b)
+      f
       ∙ ap (place_in T₀) (sym (over w d (suc j) (omega arith) (less-deep w (d + k) (d + suc j) D (omega arith)))))
 
   module _ (T : Table) (row : List ℕ) (node j v : ℕ) (I : Along T₀ w d k row₀ T row node j v) where

@@ -21,36 +21,46 @@ use Rattle.share_rows.specs.KeptRows.{Rows, causes, disorders, orders, bytes_kep
 
 -- Each cause of 26, at its limit and beyond it.
 pub causes-come : Rows causes
-unfolding book_outcome_at book_fits lent_fits size_fits rows stored_as good_order bucket header record_at clauses_from verdict same? ℕ_discrete
-    diagram_from value_from book_call alone_call line_call book_step record_step alone sharing diagram_in number_in placed_all place put diagram_at
+unfolding book_outcome_at book_fits lent_fits size_fits rows stored_as good_order bucket header record_at clauses_from verdict same?
+    ℕ_discrete
+    diagram_from value_from book_call alone_call line_call book_step record_step alone sharing diagram_in number_in placed_all place put
+    diagram_at
     clause above
 causes-come = (refl, (refl, (refl, (refl, (refl, (refl, (refl, (refl, (refl, (refl, (refl, (refl, (refl, (refl, (refl, (refl, (refl, (refl, (refl, (refl, tt))))))))))))))))))))
 
 -- A table out of good order.
 pub disorders-come : Rows disorders
-unfolding book_outcome_at book_fits lent_fits size_fits rows stored_as good_order bucket header record_at clauses_from verdict same? ℕ_discrete
-    diagram_from value_from book_call alone_call line_call book_step record_step alone sharing diagram_in number_in placed_all place put diagram_at
+unfolding book_outcome_at book_fits lent_fits size_fits rows stored_as good_order bucket header record_at clauses_from verdict same?
+    ℕ_discrete
+    diagram_from value_from book_call alone_call line_call book_step record_step alone sharing diagram_in number_in placed_all place put
+    diagram_at
     clause above
 disorders-come = (refl, (refl, (refl, (refl, (refl, tt)))))
 
 -- Two faults at once.
 pub orders-come : Rows orders
-unfolding book_outcome_at book_fits lent_fits size_fits rows stored_as good_order bucket header record_at clauses_from verdict same? ℕ_discrete
-    diagram_from value_from book_call alone_call line_call book_step record_step alone sharing diagram_in number_in placed_all place put diagram_at
+unfolding book_outcome_at book_fits lent_fits size_fits rows stored_as good_order bucket header record_at clauses_from verdict same?
+    ℕ_discrete
+    diagram_from value_from book_call alone_call line_call book_step record_step alone sharing diagram_in number_in placed_all place put
+    diagram_at
     clause above
 orders-come = (refl, (refl, (refl, (refl, (refl, (refl, (refl, (refl, tt))))))))
 
 -- Bytes that no call writes.
 pub bytes-come : Rows bytes_kept
-unfolding book_outcome_at book_fits lent_fits size_fits rows stored_as good_order bucket header record_at clauses_from verdict same? ℕ_discrete
-    diagram_from value_from book_call alone_call line_call book_step record_step alone sharing diagram_in number_in placed_all place put diagram_at
+unfolding book_outcome_at book_fits lent_fits size_fits rows stored_as good_order bucket header record_at clauses_from verdict same?
+    ℕ_discrete
+    diagram_from value_from book_call alone_call line_call book_step record_step alone sharing diagram_in number_in placed_all place put
+    diagram_at
     clause above
 bytes-come = (refl, (refl, (refl, (refl, (refl, (refl, tt))))))
 
 -- An accepted line.
 pub line-comes : LineComes line_row
-unfolding book_outcome_at book_fits lent_fits size_fits rows stored_as good_order bucket header record_at clauses_from verdict same? ℕ_discrete
-    diagram_from value_from book_call alone_call line_call book_step record_step alone sharing diagram_in number_in placed_all place put diagram_at
+unfolding book_outcome_at book_fits lent_fits size_fits rows stored_as good_order bucket header record_at clauses_from verdict same?
+    ℕ_discrete
+    diagram_from value_from book_call alone_call line_call book_step record_step alone sharing diagram_in number_in placed_all place put
+    diagram_at
     clause above rup in_word
 line-comes = refl
 

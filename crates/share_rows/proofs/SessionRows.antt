@@ -22,12 +22,14 @@ use Rattle.shares.specs.Sessions.{session}
 use Rattle.share_rows.specs.SessionRows.{PlaysAll, sessions, Limits, limits, opening_number}
 
 pub sessions-play : PlaysAll sessions
-unfolding session header record_at clauses_from verdict same? ℕ_discrete diagram_from value_from book_call alone_call line_call book_step record_step
+unfolding session header record_at clauses_from verdict same? ℕ_discrete diagram_from value_from book_call alone_call line_call book_step
+    record_step
     alone sharing diagram_in number_in placed_all place put diagram_at rup pr witnessed in_word parity clause above path_line path_count
 sessions-play = ((refl, refl), ((refl, refl), ((refl, refl), ((refl, refl), ((refl, refl), ((refl, refl), ((refl, refl), ((refl, refl), ((refl, refl), ((refl, refl), ((refl, refl), ((refl, refl), tt))))))))))))
 
 pub at-limits : Limits limits
-unfolding record_at same? ℕ_discrete diagram_from value_from book_call alone_call line_call book_step record_step alone sharing diagram_in number_in
+unfolding record_at same? ℕ_discrete diagram_from value_from book_call alone_call line_call book_step record_step alone sharing diagram_in
+    number_in
     placed_all place put diagram_at above
 at-limits = (refl, (refl, (refl, (refl, (refl, (refl, (refl, (refl, (refl, (refl, (refl, (refl, (refl, (refl, (refl, (refl, (refl, (refl, (refl, (refl, tt))))))))))))))))))))
 

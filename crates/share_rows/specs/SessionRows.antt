@@ -278,5 +278,6 @@ lists = record { members = zeros 2048; struck = zeros 2048; own = zeros 8 }
 -- The number of an opening with a table of 8 places and such a scratch list.
 abbrev pub opening_number : ℕ → ℕ → ℕ → ℕ
 opening_number scratch share_a share_b =
-    (open_outcome (columns_made (zeros 8) (zeros 8) (zeros 8) (zeros 16) (zeros 8)) 0 lists lists (zeros scratch) (opened_book 0) (opened_book 0)
+    (open_outcome (columns_made (zeros 8) (zeros 8) (zeros 8) (zeros 16) (zeros 8)) 0 lists lists (zeros scratch) (opened_book 0)
+    (opened_book 0)
     share_a share_b).answer.number

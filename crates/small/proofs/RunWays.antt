@@ -41,7 +41,8 @@ use Rattle.small.specs.declared.Start.TheVariants.{Begun, Refused}
 use Rattle.small_verdict.specs.Small.{six_only, small, small_fits, small_call}
 use Rattle.small_verdict.specs.Agrees.{Said, said}
 use Rattle.small.specs.WordSteps.{WordState, WordStep, onward, halt, words_begun, word_node, word_witness, word_line, word_strike, word_set}
-use Rattle.small.specs.WordSteps.{word_end, word_step, say_at, word_records, formula_refused, word_of_clause, word_clauses, words_after_header}
+use Rattle.small.specs.WordSteps.{word_end, word_step, say_at, word_records, formula_refused, word_of_clause, word_clauses}
+use Rattle.small.specs.WordSteps.{words_after_header}
 use Rattle.small.specs.WordSteps.{word_verdict}
 use Rattle.small.specs.Checked.{small_outcome}
 use Rattle.small.specs.Lent.{WordsLent, words_lent, state_of, made_step, Held, Stepped, said_of, said_from, Begins}
@@ -68,7 +69,8 @@ module _ (n : ℕ) (l : WordsLent) (ws : WordState) (more : Bool) (s : Step) (r 
   along : (x y : WordStep) → x ≡ y → Stepped n l y s → Stepped n l x s
   along x y e S = subst (λ (z : WordStep). Stepped n l z s) (sym e) S
 
-  pub step-node : (b : NodeBody) → r ≡ NodeEntry b → (m : Made) → word_node n ws b ≡ made_step ws m → Stepped n l (made_step ws m) s → Stepped
+  pub step-node : (b : NodeBody) → r ≡ NodeEntry b → (m : Made) → word_node n ws b ≡ made_step ws m → Stepped n l (made_step ws m) s →
+      Stepped
       n l (word_step n ws more r) s
   unfolding word_step
   step-node b e m is S = kind (NodeEntry b) e (along (word_node n ws b) (made_step ws m) is S)
@@ -142,7 +144,8 @@ module _ (n : ℕ) (proof : List ℕ) (whole : Said) (l : WordsLent) (st : State
     (is : r ≡ record_at proof at)
     (next : ℕ) (next-is : next ≡ at + length_of r) (more : Bool) (more-is : more ≡ ltb next (length proof)) (l' : WordsLent) where
   -- the step as the definition has it
-  there : word_step n (state_of l st) (ltb (at + length_of (record_at proof at)) (length proof)) (record_at proof at) ≡ word_step n (state_of l st)
+  there : word_step n (state_of l st) (ltb (at + length_of (record_at proof at)) (length proof)) (record_at proof at)
+      ≡ word_step n (state_of l st)
       more r
   there =
       ap₂ (word_step n (state_of l st)) (sym (more-is ∙ ap (λ (k : ℕ). ltb k (length proof))
@@ -151,7 +154,8 @@ module _ (n : ℕ) (proof : List ℕ) (whole : Said) (l : WordsLent) (st : State
   unrolled : (k : ℕ) → G.steps ≡ suc k → whole ≡ word_records (suc k) n proof (state_of l st) at
   unrolled k e = G.left ∙ ap (λ (j : ℕ). word_records j n proof (state_of l st) at) e
 
-  step-halts : (k number offset : ℕ) → word_step n (state_of l st) more r ≡ halt number offset → word_records (suc k) n proof (state_of l st) at
+  step-halts : (k number offset : ℕ) → word_step n (state_of l st) more r ≡ halt number offset →
+      word_records (suc k) n proof (state_of l st) at
       ≡ say_at number (at + offset) (state_of l st)
   unfolding word_records
   step-halts k number offset e = rw (there ∙ e)
@@ -161,7 +165,8 @@ module _ (n : ℕ) (proof : List ℕ) (whole : Said) (l : WordsLent) (st : State
   unfolding word_records
   step-goes k ws' e = rw (there ∙ e)
 
-  pub going-near : (number offset : ℕ) (x : Step) → x ≡ Stop number offset → Stepped n l' (word_step n (state_of l st) more r) x → offset ≤ 1
+  pub going-near : (number offset : ℕ) (x : Step) → x ≡ Stop number offset → Stepped n l' (word_step n (state_of l st) more r) x →
+      offset ≤ 1
   going-near number offset x e S = (subst (Stepped n l' (word_step n (state_of l st) more r)) e S).leaves
 
   pub going-stop : (number offset : ℕ) (x : Step) → x ≡ Stop number offset → Stepped n l' (word_step n (state_of l st) more r) x
@@ -171,10 +176,12 @@ module _ (n : ℕ) (proof : List ℕ) (whole : Said) (l : WordsLent) (st : State
       unrolled (G.steps - 1) z ∙ step-halts (G.steps - 1) number offset
       (sym (subst (λ (y : Step). Stepped n l' (word_step n (state_of l st) more r) y) e S).says)
 
-  pub going_next : (st' : State) (x : Step) → x ≡ Next st' → Stepped n l' (word_step n (state_of l st) more r) x → Going n proof whole l' st'
+  pub going_next : (st' : State) (x : Step) → x ≡ Next st' → Stepped n l' (word_step n (state_of l st) more r) x →
+      Going n proof whole l' st'
       next × (at < next)
   going_next st' x e S =
-      let T : Stepped n l' (word_step n (state_of l st) more r) (Next st') = subst (Stepped n l' (word_step n (state_of l st) more r)) e S in
+      let T : Stepped n l' (word_step n (state_of l st) more r) (Next st') =
+      subst (Stepped n l' (word_step n (state_of l st) more r)) e S in
       let z : G.steps ≡ suc (G.steps - 1) = omega (arith, G.enough) in
       let form : number_of r ≡ 0 = onward-form n (state_of l st) more r (state_of l' st') (sym T.says) in
       let takes : 1 ≤ length_of r = record-takes r form in
@@ -226,7 +233,8 @@ module _ (n wanted from : ℕ) (formula : List ℕ) where
     building-end e proof = B.left proof ∙ ap (word_clauses n proof (take made members))
         (clauses-ended formula n remaining at (ended_is (next_clause formula n remaining at) e))
 
-    pub building-refused : (number place : ℕ) → clause_of (next_clause formula n remaining at) ≡ read.Refused number place → (proof : List ℕ)
+    pub building-refused : (number place : ℕ) → clause_of (next_clause formula n remaining at) ≡ read.Refused number place →
+        (proof : List ℕ)
         → word_clauses n proof [] (clauses_from formula n wanted from) ≡ formula_refused number place
     unfolding word_clauses
     building-refused number place e proof =
@@ -402,14 +410,17 @@ begins-few x made e B = subst Begins e B
 -- what the call says and leaves
 module _ (members struck scratch formula proof : List ℕ) where
   pub call-seven : small_fits members struck scratch ≡ false
-      → small_outcome members struck scratch (record { number = 7; in_proof = false; place = 0; lines = 0; rounds = 0 }) ≡ small_call members
+      → small_outcome members struck scratch (record { number = 7; in_proof = false; place = 0; lines = 0; rounds = 0 })
+      ≡ small_call members
       struck scratch formula proof
   unfolding small_call
   call-seven e = rw e
 
-  pub call-done : small_fits members struck scratch ≡ true → (r : SmallChecked) → word_verdict formula proof ≡ said_of r → (a b c : List ℕ) → a
+  pub call-done : small_fits members struck scratch ≡ true → (r : SmallChecked) → word_verdict formula proof ≡ said_of r →
+      (a b c : List ℕ) → a
       ≡ replicate (length members) 0
-      → b ≡ replicate (length struck) 0 → c ≡ replicate (length scratch) 0 → small_outcome a b c r ≡ small_call members struck scratch formula
+      → b ≡ replicate (length struck) 0 → c ≡ replicate (length scratch) 0 → small_outcome a b c r
+      ≡ small_call members struck scratch formula
       proof
   unfolding small_call
   call-done e r s a b c p q t =

@@ -169,7 +169,8 @@ module _ (formula proof : List ℕ) where
   unfolding small word_verdict
   words-agree = go (six_only formula (header formula)) refl
     where
-      go : (h : Header) → six_only formula (header formula) ≡ h → said (check_after_header in_records enough formula proof h) ≡ words_after_header
+      go : (h : Header) → six_only formula (header formula) ≡ h → said (check_after_header in_records enough formula proof h)
+          ≡ words_after_header
           formula proof h
       go (Proper n many at) e =
           let (is, six) = proper-stands (header formula) n many at e in

@@ -1,6 +1,7 @@
 -- The check over words: the state between records, the result of each record, and the whole run. Theorem `words-agree` shows that it is
 -- `small`. No call open to others cites this file.
-use Rattle.std.specs.Prelude.{Bool, true, false, not, ◌&&◌, ◌||◌, cond, List, [], ◌∷◌, ◌++◌, ℕ, zero, suc, ◌+◌, length, get_or, set, replicate, eqb, ltb, leb}
+use Rattle.std.specs.Prelude.{Bool, true, false, not, ◌&&◌, ◌||◌, cond, List, [], ◌∷◌, ◌++◌, ℕ, zero, suc, ◌+◌, length, get_or, set}
+use Rattle.std.specs.Prelude.{replicate, eqb, ltb, leb}
 use Rattle.meaning.specs.Rules.{Line, rup, pr}
 use Rattle.meaning.specs.Words.{in_word}
 use Rattle.paths.specs.Paths.{path_line}
@@ -174,7 +175,8 @@ is_live_word st k = ltb k (length st.members) && eqb (get_or st.struck k 0) 0
 
 unfoldable pub word_strike : WordState → ℕ → WordStep
 unfolding word_waits is_live_word
-word_strike st k = cond (word_waits st) (halt 16 0) (cond (not (is_live_word st k)) (halt 28 0) (onward (with_struck st (set st.struck k 1))))
+word_strike st k = cond (word_waits st) (halt 16 0)
+    (cond (not (is_live_word st k)) (halt 28 0) (onward (with_struck st (set st.struck k 1))))
 
 abbrev pub set_word : SetKind → SetBody → ℕ
 set_word Parity b = parity_word (in_word b.set) (eqb b.byte 1)

@@ -39,7 +39,8 @@ use Rattle.records.specs.declared.Record.TheVariants.{NodeEntry, Witness, ProofL
 use Rattle.records.specs.declared.Record.TheVariants.{NoRecord}
 use Rattle.records.specs.Records.{record_at, length_of}
 use Rattle.commands.specs.Commands.{in_records}
-use Rattle.verdict.specs.Steps.{State, Step, next, stop, spent, is_entry, entry_node, is_variable, entered, node_step, witness_step, waiting}
+use Rattle.verdict.specs.Steps.{State, Step, next, stop, spent, is_entry, entry_node, is_variable, entered, node_step, witness_step}
+use Rattle.verdict.specs.Steps.{waiting}
 use Rattle.verdict.specs.Steps.{accepted, judged, diagram_in, live_members, line_step, is_live, strike_step, beyond, no_parity, set_diagram}
 use Rattle.verdict.specs.Steps.{set_step, end_step, record_step}
 use Rattle.verdict.specs.Check.{step, Verdict, verdict}

@@ -20,6 +20,7 @@ sizes = (refl, (refl, (refl, (refl, (refl, tt)))))
 
 -- "reads records as before"
 pub records : SmallGivesAll record_table
-unfolding small clauses_from place clause diagram_from same? record_at above rup pr witnessed value_from diagram_at ℕ_discrete in_word parity
+unfolding small clauses_from place clause diagram_from same? record_at above rup pr witnessed value_from diagram_at ℕ_discrete in_word
+    parity
     at_least path_line path_count
 records = (refl, (refl, (refl, (refl, (refl, (refl, (refl, (refl, (refl, (refl, (refl, (refl, tt))))))))))))

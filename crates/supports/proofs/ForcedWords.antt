@@ -96,9 +96,11 @@ module _ (vs ls hs : List ℕ) (count : ℕ) (R : Readable vs ls hs count) where
         subst (Forces (in_word (with_forced (bit_or a b) v low high))) (sym (is-node vs ls hs count R k two inside)) (
           (λ e. added-in (bit_or a b) v low high at-node.least (low-tested e)),
           (λ e. added-in (bit_or a b) v low high at-node.least (high-tested e)),
-          forces-more (in_word a) (in_word (with_forced (bit_or a b) v low high)) (λ w e. kept_in (bit_or a b) v low high w (in_left a b w e))
+          forces-more (in_word a) (in_word (with_forced (bit_or a b) v low high))
+              (λ w e. kept_in (bit_or a b) v low high w (in_left a b w e))
               (diagram_at t low) x,
-          forces-more (in_word b) (in_word (with_forced (bit_or a b) v low high)) (λ w e. kept_in (bit_or a b) v low high w (in_right a b w e))
+          forces-more (in_word b) (in_word (with_forced (bit_or a b) v low high))
+              (λ w e. kept_in (bit_or a b) v low high w (in_right a b w e))
               (diagram_at t high) y,
         )
 
@@ -117,8 +119,10 @@ pub word-leaf : (all : Bool) (t : List Node) (k word : ℕ) → k < 2 → WordOf
 word-leaf true t k word p = support-leaf t k word p
 word-leaf false t k word p = forced-leaf t k word p
 
-pub word-node : (all : Bool) (vs ls hs : List ℕ) (count : ℕ) (R : Readable vs ls hs count) (k : ℕ) (two : 2 ≤ k) (inside : k < count) (a b : ℕ)
-    → WordOf all a (diagram_at (nodes_in vs ls hs count) (get_or ls k 0)) → WordOf all b (diagram_at (nodes_in vs ls hs count) (get_or hs k 0))
+pub word-node : (all : Bool) (vs ls hs : List ℕ) (count : ℕ) (R : Readable vs ls hs count) (k : ℕ) (two : 2 ≤ k) (inside : k < count)
+    (a b : ℕ)
+    → WordOf all a (diagram_at (nodes_in vs ls hs count) (get_or ls k 0)) →
+    WordOf all b (diagram_at (nodes_in vs ls hs count) (get_or hs k 0))
     → WordOf all (with_node all (bit_or a b) (get_or vs k 0) (get_or ls k 0) (get_or hs k 0)) (diagram_at (nodes_in vs ls hs count) k)
 unfolding with_node
 word-node true vs ls hs count R k two inside a b u x = support-node vs ls hs count R k two inside a b u x

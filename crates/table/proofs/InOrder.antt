@@ -1,6 +1,7 @@
 -- Good order in the open words: a table lent so is what the inner functions work on, looking up by its index is the walk, and what they
 -- leave is in good order. The idea: the index by insertion is the literal one. Assumes nothing.
-use Rattle.std.proofs.Common.{◌≡◌, ℕ, ◌+◌, ◌-◌, ◌≤◌, true, ◌&&◌, List, length, take, drop, replicate, sym, ap, ◌∙◌, subst, ap₂, arith, length-take-le, get_or-drop}
+use Rattle.std.proofs.Common.{◌≡◌, ℕ, ◌+◌, ◌-◌, ◌≤◌, true, ◌&&◌, List, length, take, drop, replicate, sym, ap, ◌∙◌, subst, ap₂, arith}
+use Rattle.std.proofs.Common.{length-take-le, get_or-drop}
 use lib.ListN.{get_or-eq_default}
 use lib.Seq.{take-append_seam}
 use Rattle.meaning.proofs.Booleans.{and_both}

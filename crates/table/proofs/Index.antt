@@ -1,7 +1,8 @@
 -- The laws of the index: a head is the last node of its chain, a link the last of its chain before its place, and what the walk from
 -- place 2 finds it finds among the places up to the last of the node's chain. The idea: no chain is a list; `last_in` says which place is
 -- next. Assumes nothing.
-use Rattle.std.proofs.Common.{◌≡◌, ℕ, zero, suc, ◌+◌, ◌-◌, ◌*◌, ◌%◌, ◌<◌, ◌≤◌, false, cond, eqb, List, [], ◌∷◌, ◌++◌, length, get_or, set, sym, refl, ap, ◌∙◌, subst, mod-lt, arith, get_or-set_other, get_or-set_same, set-set, eq-eqb, ne_eqb}
+use Rattle.std.proofs.Common.{◌≡◌, ℕ, zero, suc, ◌+◌, ◌-◌, ◌*◌, ◌%◌, ◌<◌, ◌≤◌, false, cond, eqb, List, [], ◌∷◌, ◌++◌, length, get_or, set}
+use Rattle.std.proofs.Common.{sym, refl, ap, ◌∙◌, subst, mod-lt, arith, get_or-set_other, get_or-set_same, set-set, eq-eqb, ne_eqb}
 use mathlib.Core.Option.{none, some}
 use native.Mathlib.Decide.{ℕ_discrete}
 use lib.Seq.{set-get_or}

@@ -1,7 +1,9 @@
 -- The stores of append and of drop, as the nodes they leave: three columns and the index with one node more, or with the last one taken
 -- out. The idea: a store into padded nodes at their length is one node more, and a blank stored over the last node undoes it. Assumes
 -- nothing.
-use Rattle.std.proofs.Common.{◌≡◌, ℕ, zero, suc, ◌+◌, ◌-◌, ◌*◌, ◌<◌, ◌≤◌, Bool, true, false, List, [], ◌∷◌, ◌++◌, map, length, get_or, take, set, replicate, sym, refl, ap, ◌∙◌, arith, length-append, length-set, length-take-le, take_all, get_or-take, take-suc, take-take, set-set, le-ltb, lt-ltb}
+use Rattle.std.proofs.Common.{◌≡◌, ℕ, zero, suc, ◌+◌, ◌-◌, ◌*◌, ◌<◌, ◌≤◌, Bool, true, false, List, [], ◌∷◌, ◌++◌, map, length, get_or, take}
+use Rattle.std.proofs.Common.{set, replicate, sym, refl, ap, ◌∙◌, arith, length-append, length-set, length-take-le, take_all, get_or-take}
+use Rattle.std.proofs.Common.{take-suc, take-take, set-set, le-ltb, lt-ltb}
 use mathlib.Core.Option.{Option, none, some}
 use lib.ListN.{get_or-append, get_or-eq_default}
 use lib.Seq.{take-length, set-get_or, set-append_seam, append_snoc}
@@ -73,7 +75,8 @@ index-less s u k e two lt =
     let m : length u - 2 ≡ k - 1 = omega arith in
     let m' : k - 2 ≡ length (take k u) - 2 = omega (arith, length-take-le k u (omega arith)) in
     ap (λ (j : ℕ). remove (index_from u (2 * s) s j) (bucket_at (2 * s) u k) k) m ∙ index-remove u (2 * s) s k two lt
-    ∙ sym (index_same u (take k u) (2 * s) s (k - 2) (λ i h. get_or-take k u i blank (omega arith))) ∙ ap (index_from (take k u) (2 * s) s) m'
+    ∙ sym (index_same u (take k u) (2 * s) s (k - 2) (λ i h. get_or-take k u i blank (omega arith)))
+    ∙ ap (index_from (take k u) (2 * s) s) m'
 
 -- ---- one node more
 
@@ -245,7 +248,8 @@ module _ (s : ℕ) (u : List Node) (k : ℕ) (e : length u ≡ suc k) (two : 2 �
       (remove (index_of s u) (bucket_at (2 * s) u k) k).links k) columns
       ∙ ap (λ (x : Index). table_of (columns_of (padded s (take k u))).vars (columns_of (padded s (take k u))).lows
       (columns_of (padded s (take k u))).highs x.heads x.links k) (index-less s u k e two lt)
-      ∙ ap (table_of (columns_of (padded s (take k u))).vars (columns_of (padded s (take k u))).lows (columns_of (padded s (take k u))).highs
+      ∙ ap (table_of (columns_of (padded s (take k u))).vars (columns_of (padded s (take k u))).lows
+      (columns_of (padded s (take k u))).highs
       (index_of s (take k u)).heads (index_of s (take k u)).links)
       (sym (length-take-le k u (omega arith)))
 

@@ -1,6 +1,8 @@
 -- The index by insertion is the literal one, and looking up by it finds what the walk from place 2 finds. The idea: the highest node of a
 -- chain below a place is the last one inserted before it; the rest is Chain. Assumes nothing.
-use Rattle.std.proofs.Common.{◌≡◌, ℕ, zero, suc, ◌+◌, ◌-◌, ◌*◌, ◌<◌, ◌≤◌, Bool, true, false, cond, eqb, ltb, ◌⊎◌, List, [], ◌∷◌, length, get_or, sym, refl, ap, ◌∙◌, ap₂, inl, inr, arith, get_or-set_other, ext_get_or, le-ltb, lt-ltb, eq-eqb, ne_eqb, eqb-true, le-leb}
+use Rattle.std.proofs.Common.{◌≡◌, ℕ, zero, suc, ◌+◌, ◌-◌, ◌*◌, ◌<◌, ◌≤◌, Bool, true, false, cond, eqb, ltb, ◌⊎◌, List, [], ◌∷◌, length}
+use Rattle.std.proofs.Common.{get_or, sym, refl, ap, ◌∙◌, ap₂, inl, inr, arith, get_or-set_other, ext_get_or, le-ltb, lt-ltb, eq-eqb}
+use Rattle.std.proofs.Common.{ne_eqb, eqb-true, le-leb}
 use mathlib.Core.Option.{none, some}
 use native.Mathlib.Decide.{ℕ_discrete, dec_lt}
 use Rattle.table.specs.Nodes.{Node, node_of, at, alike, find}
@@ -43,7 +45,8 @@ module _ (n : ℕ) (t : List Node) (b : ℕ) where
   unfolding highest
   highest-suc k two = rw (le-leb 2 k two)
 
-  last-suc : (j : ℕ) → last_in (bucket_at n t) b (suc j) ≡ cond (eqb (bucket_at n t (suc (suc j))) b) (suc (suc j)) (last_in (bucket_at n t) b j)
+  last-suc : (j : ℕ) → last_in (bucket_at n t) b (suc j) ≡ cond (eqb (bucket_at n t (suc (suc j))) b) (suc (suc j))
+      (last_in (bucket_at n t) b j)
   unfolding last_in
   last-suc j = refl
 

@@ -1,6 +1,7 @@
 -- Node numbers and their diagrams: a number's diagram is reduced and ordered, and in a table in good order two numbers are equal exactly
 -- where their values are. The idea: children have smaller numbers, so induction on the number; no two nodes are alike. Assumes nothing.
-use Rattle.std.proofs.Common.{◌≡◌, ℕ, zero, suc, ◌<◌, ◌≤◌, true, false, ◌↔◌, List, length, take, sym, refl, ap, ◌∙◌, ap₂, arith, length-take-le, get_or-take}
+use Rattle.std.proofs.Common.{◌≡◌, ℕ, zero, suc, ◌<◌, ◌≤◌, true, false, ◌↔◌, List, length, take, sym, refl, ap, ◌∙◌, ap₂, arith}
+use Rattle.std.proofs.Common.{length-take-le, get_or-take}
 use Rattle.meaning.specs.Diagram.{Assignment, leaf, node, value}
 use Rattle.meaning.specs.Reduced.{Reduced}
 use Rattle.meaning.proofs.Canonical.{unique}

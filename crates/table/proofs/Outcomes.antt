@@ -1,6 +1,7 @@
 -- The laws of placing for the table as it is lent: what an outcome keeps and gives, a diagram that is there, the joining of two sides, and
 -- dropping. The idea: an outcome is a placing written into columns, and columns read back as the nodes written. Assumes nothing.
-use Rattle.std.proofs.Common.{◌≡◌, ℕ, suc, ◌<◌, ◌≤◌, Bool, true, false, List, length, take, sym, refl, ap, ◌∙◌, subst, ap₂, arith, take-take}
+use Rattle.std.proofs.Common.{◌≡◌, ℕ, suc, ◌<◌, ◌≤◌, Bool, true, false, List, length, take, sym, refl, ap, ◌∙◌, subst, ap₂, arith}
+use Rattle.std.proofs.Common.{take-take}
 use lib.Seq.{take-length}
 use Rattle.meaning.specs.Diagram.{Diagram, branch}
 use Rattle.meaning.specs.Reduced.{Reduced}
@@ -155,7 +156,8 @@ unfolding written and_then
 then-placed s (full t) next e = t≢f e
 then-placed s (placed t k) next e = ap (λ (u : List Node). written s (next u k)) (sym (nodes-indexed s t))
 
-module _ (T : Table) (G : Good T) (v : ℕ) (l h : Diagram) (rl : Reduced 1 65 l) (rh : Reduced 1 65 h) (o₁ : Outcome) (e₁ : o₁ ≡ place_in T l)
+module _ (T : Table) (G : Good T) (v : ℕ) (l h : Diagram) (rl : Reduced 1 65 l) (rh : Reduced 1 65 h) (o₁ : Outcome)
+    (e₁ : o₁ ≡ place_in T l)
   where
     joined_is : place_in T (branch v l h) ≡ written (size T)
         (and_then (place (size T) (nodes_of T) l) (λ t₁ a. and_then (place (size T) t₁ h) (λ t₂ b. put (size T) t₂ v a b)))

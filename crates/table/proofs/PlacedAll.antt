@@ -1,6 +1,7 @@
 -- Diagrams placed in their order: the first and the rest, one list after another, as outcomes tell it; and that nothing is lost by placing.
 -- The idea: each placing goes on with what the one before it left. Assumes nothing.
-use Rattle.std.proofs.Common.{◌≡◌, ℕ, ◌≤◌, max, Bool, true, false, cond, not, eqb, ltb, List, [], ◌∷◌, ◌++◌, length, sym, refl, ap, ◌∙◌, ap₂, arith, length-append}
+use Rattle.std.proofs.Common.{◌≡◌, ℕ, ◌≤◌, max, Bool, true, false, cond, not, eqb, ltb, List, [], ◌∷◌, ◌++◌, length, sym, refl, ap, ◌∙◌}
+use Rattle.std.proofs.Common.{ap₂, arith, length-append}
 use mathlib.Core.Option.{Option, none, some}
 use Rattle.meaning.specs.Diagram.{Diagram, leaf, node}
 use Rattle.meaning.proofs.Booleans.{t≢f, and-true}
@@ -39,7 +40,8 @@ module _ (s : ℕ) (t : List Node) (D : Diagram) (Ds : List Diagram) (o : Outcom
 
 -- ---- one list after another
 
-pub placed-short : (s : ℕ) (t : List Node) (Ds Es : List Diagram) (t' : List Node) → placed_all s t Ds ≡ short t' → placed_all s t (Ds ++ Es)
+pub placed-short : (s : ℕ) (t : List Node) (Ds Es : List Diagram) (t' : List Node) → placed_all s t Ds ≡ short t' →
+    placed_all s t (Ds ++ Es)
     ≡ short t'
 unfolding placed_all
 placed-short s t [] Es t' e = cc

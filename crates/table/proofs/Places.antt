@@ -1,7 +1,8 @@
 -- What each test of a place says of the rows: a node's parts, the count. The idea: a failed test is a false factor of the
 -- definition.
 -- Assumes nothing.
-use Rattle.std.proofs.Common.{◌≡◌, ℕ, ◌-◌, ◌<◌, ◌≤◌, Bool, true, false, ◌&&◌, ltb, List, length, get_or, take, drop, sym, ap, ◌∙◌, arith, length-drop, take_all, take-take, le-ltb, lt-ltb, eq-eqb, ne_eqb, le-leb}
+use Rattle.std.proofs.Common.{◌≡◌, ℕ, ◌-◌, ◌<◌, ◌≤◌, Bool, true, false, ◌&&◌, ltb, List, length, get_or, take, drop, sym, ap, ◌∙◌, arith}
+use Rattle.std.proofs.Common.{length-drop, take_all, take-take, le-ltb, lt-ltb, eq-eqb, ne_eqb, le-leb}
 use mathlib.Core.Bool.{and-true, and-false}
 use borrow.Author.Tests.{lt-leb}
 use Rattle.table.specs.Nodes.{Node, node_of, at, above, all_blank, fits, nodes_in_order, good_places}

@@ -1,7 +1,8 @@
 -- Placing a reduced diagram: good order is kept, the nodes are extended, the number given has that diagram, and `full` is given only with
 -- every place taken. A diagram that is there is found again. The idea: a predicate on the outcome, by induction on the diagram. Assumes
 -- nothing.
-use Rattle.std.proofs.Common.{◌≡◌, ℕ, zero, suc, ◌+◌, ◌-◌, ◌<◌, ◌≤◌, Bool, true, false, cond, ltb, ◌≢◌, List, [], ◌∷◌, ◌++◌, length, drop, sym, refl, ap, ◌∙◌, arith, length-drop, get_or-drop, ltb-false, ltb-true, eq-eqb, ne_eqb}
+use Rattle.std.proofs.Common.{◌≡◌, ℕ, zero, suc, ◌+◌, ◌-◌, ◌<◌, ◌≤◌, Bool, true, false, cond, ltb, ◌≢◌, List, [], ◌∷◌, ◌++◌, length, drop}
+use Rattle.std.proofs.Common.{sym, refl, ap, ◌∙◌, arith, length-drop, get_or-drop, ltb-false, ltb-true, eq-eqb, ne_eqb}
 use mathlib.Core.Option.{Option, none, some}
 use native.Mathlib.Decide.{ℕ_discrete}
 use Rattle.meaning.specs.Diagram.{Diagram, leaf, node, branch}
@@ -28,7 +29,8 @@ found_from i (y ∷ ys) x = go (alike y x) refl (find_from (suc i) ys x) (found_
   where
     go : (b : Bool) → alike y x ≡ b → (o : Option ℕ) → FoundFrom (suc i) ys x o → FoundFrom i (y ∷ ys) x (cond b (some i) o)
     go true e o f = (0, omega arith, omega arith, alike-true y x e)
-    go false e none f = λ k. elim k as (λ k. k < length (y ∷ ys) → at (y ∷ ys) k ≢ x) [ zero ↦ λ p. alike-false y x e | suc k' ↦ λ p. f k' (omega arith) ]
+    go false e none f = λ k. elim k as (λ k. k < length (y ∷ ys) → at (y ∷ ys) k ≢ x)
+        [ zero ↦ λ p. alike-false y x e | suc k' ↦ λ p. f k' (omega arith) ]
     go false e (some m) f = (suc f.0, omega arith, omega arith, f.3)
 
 -- What `find` says of a node: no place from 2 on has it, or the one given.

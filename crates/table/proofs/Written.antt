@@ -1,7 +1,9 @@
 -- A list of nodes written into columns of s places and read back: the table `indexed s t` holds exactly t, is as long as asked for and is
 -- good where t is in good order; a good table's columns read as its nodes. The idea: padding adds blank places, which is what a read past
 -- the end gives. Assumes nothing.
-use Rattle.std.proofs.Common.{◌≡◌, ℕ, zero, suc, ◌+◌, ◌-◌, ◌*◌, ◌≤◌, List, [], ◌∷◌, ◌++◌, map, length, get_or, take, drop, replicate, sym, refl, ap, ◌∙◌, subst, ap₂, arith, length-append, length-drop, length-set, take-append-drop, length-take-le, ext_get_or}
+use Rattle.std.proofs.Common.{◌≡◌, ℕ, zero, suc, ◌+◌, ◌-◌, ◌*◌, ◌≤◌, List, [], ◌∷◌, ◌++◌, map, length, get_or, take, drop, replicate, sym}
+use Rattle.std.proofs.Common.{refl, ap, ◌∙◌, subst, ap₂, arith, length-append, length-drop, length-set, take-append-drop, length-take-le}
+use Rattle.std.proofs.Common.{ext_get_or}
 use lib.ListN.{length-replicate, length-map}
 use lib.ListN.{get_or-map}
 use lib.Seq.{take-append_seam}

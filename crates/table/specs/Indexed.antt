@@ -1,5 +1,6 @@
 -- Three columns with their lookup index, as the inner functions are lent them. No call open to others cites this file.
-use Rattle.std.specs.Prelude.{◌≡◌, ℕ, zero, suc, ◌-◌, ◌*◌, ◌≤◌, Bool, true, false, List, length, take, replicate, nat_lt, slice_index, slice_set}
+use Rattle.std.specs.Prelude.{◌≡◌, ℕ, zero, suc, ◌-◌, ◌*◌, ◌≤◌, Bool, true, false, List, length, take, replicate, nat_lt, slice_index}
+use Rattle.std.specs.Prelude.{slice_set}
 use Rattle.std.proofs.Math.Option.{Option, none, some}
 use Rattle.table.specs.declared.Placed.{Placed}
 use Rattle.table.specs.declared.NodePlaced.{NodePlaced}

@@ -102,7 +102,8 @@ module _ (n : ℕ) (L : Lent) (x : State) (H : Held n L x) where
       -- THEOREM: of a PR line, by what is told of it.
       pub pr-cause-is : (i rounds : ℕ) (words : List ℕ) → PrTold (nodes_of T) p q (by_not G (live_members S)) L.members L.struck
           x.members i rounds words
-          → pr_cause n P N S G ≡ fixed (fixes 64 (by_not (under_witness p q (diagram_in S (get_or L.members i 0))) (by_not G (live_members S))))
+          → pr_cause n P N S G ≡ fixed (fixes 64
+          (by_not (under_witness p q (diagram_in S (get_or L.members i 0))) (by_not G (live_members S))))
           (some i)
       unfolding pr_cause
       pr-cause-is i rounds words W =

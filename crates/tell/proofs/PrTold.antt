@@ -93,7 +93,8 @@ module _ (T : Table) (G : Good T) (live : List ℕ) (inside : Inside T.count liv
             sym (ap₂ (λ (ds : List Diagram) (f : Diagram). (turn_line p n ds f).shown) list-is (member-same j (omega (arith, h, L.inside))))
             ∙ L.lowest j h e;
         fixed = subst (λ (f : Diagram). Fixed (by_not (under_witness p n f) (by_not g ms)) rounds words) (member-same i L.inside)
-            (subst (λ (ds : List Diagram). Fixed (by_not (under_witness p n (diagram_at (nodes_of T₁) (get_or members i 0))) ds) rounds words)
+            (subst (λ (ds : List Diagram). Fixed (by_not (under_witness p n (diagram_at (nodes_of T₁) (get_or members i 0))) ds) rounds
+            words)
             list-is F);
       }
 

@@ -61,7 +61,8 @@ module _ (T : Table) (list memo : List ℕ) (R : ListReady T list memo) (f p n :
 
       made : Grown T (cofactor_literals 64 (in_word p) (in_word n) F) o
       unfolding result
-      made = grown T R.good (cofactor_literals 64 (in_word p) (in_word n) F) (result-reduced (Literals p n) F (diagram_at (nodes_of T) 1)) o e
+      made = grown T R.good (cofactor_literals 64 (in_word p) (in_word n) F) (result-reduced (Literals p n) F (diagram_at (nodes_of T) 1)) o
+          e
 
       long : Longer T o.table
       long = longer T (cofactor_literals 64 (in_word p) (in_word n) F) o made

@@ -62,4 +62,5 @@ module _ (n : ℕ) (most : n ≤ 64) where
     -- and the literals that it fixes
     pub turn-fixes-width : same (cofactor_literals n P N f) (leaf true) ≡ false → fixes 64 (by_not (cofactor_literals 64 P N f) ms)
         ≡ fixes n (turn_members n P N ms f)
-    turn-fixes-width e = ap (λ (h : Diagram). fixes 64 (by_not h ms)) h-same ∙ fixed-width (cofactor_literals n P N f) h-red (not-leaf e) ms o
+    turn-fixes-width e = ap (λ (h : Diagram). fixes 64 (by_not h ms)) h-same
+        ∙ fixed-width (cofactor_literals n P N f) h-red (not-leaf e) ms o

@@ -142,7 +142,8 @@ module _ (xs told sides : List ℕ) where
     whole_same : place_in t' (wrapped t' xs told sides d D') ≡ place_in t' (wrapped t xs told sides d D')
     whole_same = ap (place_in t') (wrapped-longer t t' longer-once d D' F.2)
 
-    one_more : (b : Bool) → (place_in t D').full ≡ b → place_in t (wrapped t xs told sides d D') ≡ place_in t' (wrapped t xs told sides d D')
+    one_more : (b : Bool) → (place_in t D').full ≡ b → place_in t (wrapped t xs told sides d D')
+        ≡ place_in t' (wrapped t xs told sides d D')
     one_more true f' =
         sym (through-full d t G D' F.2 (place_in t D') refl f') ∙ through-full d t' grown-once.good D' fitting-once (place_in t D')
         next-same f' ∙ whole_same

@@ -218,7 +218,8 @@ module _ (list places nodes₀ : List ℕ) where
     filled = λ j q. go j q (ℕ_discrete j k);
   }
     where
-      go : (j : ℕ) → j < k + 1 → Dec (j ≡ k) → get_or (set nodes k (get_or list (get_or places k 0) 0)) j 0 ≡ get_or list (get_or places j 0) 0
+      go : (j : ℕ) → j < k + 1 → Dec (j ≡ k) → get_or (set nodes k (get_or list (get_or places k 0) 0)) j 0
+          ≡ get_or list (get_or places j 0) 0
       go j q (yes e) = rw e (get_or-set_same nodes k (get_or list (get_or places k 0) 0) 0 (omega (arith, F.room)))
       go j q (no n) = get_or-set_other nodes k j (get_or list (get_or places k 0) 0) 0 n ∙ F.filled j (omega arith)
 
@@ -231,7 +232,8 @@ module _ (list places nodes₀ : List ℕ) where
       get_or-take (length places) nodes j 0 inside
       ∙ F.filled j (omega arith)
       ∙ sym (get_or-map (λ i. get_or list i 0) places j 0)
-      ∙ get_or-inside (map (λ i. get_or list i 0) places) j (get_or list 0 0) 0 (omega (arith, inside, length-map places (λ i. get_or list i 0))))
+      ∙ get_or-inside (map (λ i. get_or list i 0) places) j (get_or list 0 0) 0
+      (omega (arith, inside, length-map places (λ i. get_or list i 0))))
     where
       short : length (take (length places) nodes) ≡ length places
       short = length-take-le (length places) nodes (omega (arith, F.room))

@@ -81,7 +81,8 @@ module _ (ms : List Diagram) (u : words.Literals) (K : UnitsTaken 64 ms u) where
   unfolding sets.has
   false-is fits = word-is 64 1 (makes_false these) u.negative fits (λ j lt. listed j lt false)
 
-words_more : (rounds : List (List Literal)) (ls : List Literal) (rest : List ℕ) → fixed_words (rounds ++ ls ∷ []) ++ rest ≡ fixed_words rounds
+words_more : (rounds : List (List Literal)) (ls : List Literal) (rest : List ℕ) → fixed_words (rounds ++ ls ∷ []) ++ rest
+    ≡ fixed_words rounds
     ++ true_word ls ∷ false_word ls ∷ rest
 unfolding fixed_words
 words_more [] ls rest = refl

@@ -104,7 +104,8 @@ module _ (n : ℕ) (L : Lent) (st : State) (H : Held n L st) (k : ℕ) (k-in : k
     rup-is = ap (rup n (live_members S)) (sym is) ∙ sym
         (rup-at n H.entries.narrow T H.entries.good H.entries.uses live live_inside k k-in k-one)
 
-    pr-is : (P N : ℕ → Bool) → pr n P N (live_members S) (clause n ls) ≡ pr 64 P N (diagrams_of (nodes_of T) live) (diagram_at (nodes_of T) k)
+    pr-is : (P N : ℕ → Bool) → pr n P N (live_members S) (clause n ls) ≡ pr 64 P N (diagrams_of (nodes_of T) live)
+        (diagram_at (nodes_of T) k)
     pr-is P N = ap (pr n P N (live_members S)) (sym is) ∙ sym
         (pr-at n H.entries.narrow T H.entries.good H.entries.uses live live_inside k k-in k-one P N)
 
@@ -129,11 +130,13 @@ module _ (n : ℕ) (L : Lent) (st : State) (H : Held n L st) (k : ℕ) (k-in : k
   tries-said profile ls w is made at f j (no_room g) = t≢f (sym g ∙ f)
   tries-said profile ls w is made at f j (once r g W d) =
       ap (judged_or (on_failing profile n (size T) S k ls) (size T) S k) (rup-is ls is)
-      ∙ or-decided T S refl (on_failing profile n (size T) S k ls) k (rup_in T live k) r (subst (λ (x : ℕ). Tried T (rup_in T live x) r) at W)
+      ∙ or-decided T S refl (on_failing profile n (size T) S k ls) k (rup_in T live k) r
+      (subst (λ (x : ℕ). Tried T (rup_in T live x) r) at W)
       d
   tries-said profile ls w is made at f j (twice i r g W d Q) =
       ap (judged_or (on_failing profile n (size T) S k ls) (size T) S k) (rup-is ls is)
-      ∙ or-failed T S refl (on_failing profile n (size T) S k ls) k (rup_in T live k) i (subst (λ (x : ℕ). Tried T (rup_in T live x) i) at W) d
+      ∙ or-failed T S refl (on_failing profile n (size T) S k ls) k (rup_in T live k) i
+      (subst (λ (x : ℕ). Tried T (rup_in T live x) i) at W) d
       ∙ second-said profile ls w is (max S.peak i.peak) r
       (subst (λ (x : ℕ). SecondTried T live x (literals_of ls) (tried_as profile (clause_words ls)).pivot r) at Q)
       ∙ joined S k i r

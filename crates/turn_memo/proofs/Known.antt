@@ -1,5 +1,5 @@
--- What is known of every turn stored, and of the members passed by it. The idea: a claim about nodes and rounds that holds of what is stored
--- holds of what is stored next, and carries a count over the members that are passed. Assumes nothing.
+-- What is known of every turn stored, and of the members passed by it. The idea: a claim about nodes and rounds that holds of what is
+-- stored holds of what is stored next, and carries a count over the members that are passed. Assumes nothing.
 use mathlib.Core.Path.{◌≡◌, refl, sym, ◌∙◌, subst}
 use mathlib.Core.Logic.{◌⊎◌, inl, inr, ⊎_elim}
 use mathlib.Core.List.{List}
@@ -59,12 +59,14 @@ module _ (members turns : List ℕ) (from rounds : ℕ) where
   passes-least i sum (next j s m p lt h) = omega (arith, passes-least j s p)
 
   -- a member more is passed
-  pub passes-told : (i sum r : ℕ) → Passes members turns from rounds i sum → i < length members → (r ≡ 0 → ⊥) → Tells turns (get_or members i 0) r
+  pub passes-told : (i sum r : ℕ) → Passes members turns from rounds i sum → i < length members → (r ≡ 0 → ⊥) →
+      Tells turns (get_or members i 0) r
       → Passes members turns from rounds (i + 1) (sum + (r - 1))
   passes-told i sum r p lt some told = next i sum (r - 1) p lt (told (r - 1) (omega (arith, some)))
 
   -- what each stored turn carries on is carried over all that are passed
-  pub passes-carry : (P : ℕ → ℕ → Type 0) → ((i sum m : ℕ) → i < length members → Holds turns (get_or members i 0) m → P i sum → P (i + 1) (sum + m))
+  pub passes-carry : (P : ℕ → ℕ → Type 0) → ((i sum m : ℕ) → i < length members → Holds turns (get_or members i 0) m → P i sum →
+      P (i + 1) (sum + m))
       → P from rounds → (i sum : ℕ) → Passes members turns from rounds i sum → P i sum
   passes-carry P on start i sum here = start
   passes-carry P on start i sum (next j s m p lt h) = on j s m lt h (passes-carry P on start j s p)

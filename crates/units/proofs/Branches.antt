@@ -116,7 +116,8 @@ module _ (n : ℕ) (vs ls hs : List ℕ) (count : ℕ) (R : Readable vs ls hs co
   unit-of j v s p lo hi = is_unit-is n (diagram_at t j) v s (narrow j (within j p)) lo hi
 
   pub unit-node : (v : ℕ) (s : Bool) → 1 ≤ v → v ≤ n
-      → is_unit n (diagram_at t k) v s ≡ ((is_unit n (diagram_at t l) v s && is_unit n (diagram_at t h) v s) || (eqb w v && eqb (cond s l h) 0))
+      → is_unit n (diagram_at t k) v s ≡ ((is_unit n (diagram_at t l) v s && is_unit n (diagram_at t h) v s)
+      || (eqb w v && eqb (cond s l h) 0))
   unfolding unit_at
   unit-node v s lo hi =
       unit-of k v s inside lo hi ∙ ap (λ (d : Diagram). unit_at d v s) is-node ∙ branches s

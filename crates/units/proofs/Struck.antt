@@ -52,7 +52,8 @@ struck-one n t from alive left a e v s lo hi =
     none false = lt-leb (n + 1) v (omega arith)
 
 -- from all literals the units are left
-pub struck-all : (n : ℕ) (t : List Node) (k : ℕ) (left : Literals) → Struck n t k 1 (record { positive = all_word n; negative = all_word n })
+pub struck-all : (n : ℕ) (t : List Node) (k : ℕ) (left : Literals) → Struck n t k 1
+    (record { positive = all_word n; negative = all_word n })
     left → UnitsAt n t k left
 unfolding Struck UnitsAt has
 struck-all n t k left S v s lo hi = S v s lo hi ∙ ap₂ (λ (x y : Bool). x && (y || is_unit n (diagram_at t k) v s)) (all s) (le-ltb v 1 lo)

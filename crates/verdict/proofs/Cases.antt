@@ -25,7 +25,8 @@ use Rattle.verdict.specs.Cases.{A-proof}
 
 -- "A to J form one table, and one theorem says that the rules give each row." (01, Conditions of acceptance)
 pub cases : GivesAll case_table
-unfolding verdict clauses_from place clause diagram_from same? record_at above rup value_from diagram_at ℕ_discrete conjunction cofactor units_to
+unfolding verdict clauses_from place clause diagram_from same? record_at above rup value_from diagram_at ℕ_discrete conjunction cofactor
+    units_to
     pr witnessed in_word
 cases = (refl, (refl, (refl, (refl, (refl, (refl, (refl, (refl, (refl, (refl, (refl, tt)))))))))))
 
@@ -45,7 +46,8 @@ strikings = ((refl, refl), ((refl, refl), ((refl, refl), ((refl, refl), ((refl, 
 
 -- 02's 5/14: the number, the place, the counts and the peak.
 pub set-entries : GivesAll set_table
-unfolding verdict clauses_from place clause diagram_from same? record_at above rup pr witnessed value_from diagram_at ℕ_discrete in_word parity
+unfolding verdict clauses_from place clause diagram_from same? record_at above rup pr witnessed value_from diagram_at ℕ_discrete in_word
+    parity
     at_least
 set-entries = (refl, (refl, (refl, (refl, (refl, (refl, (refl, (refl, (refl, (refl, (refl, (refl, (refl, (refl, (refl, (refl, (refl, (refl, tt))))))))))))))))))
 
@@ -77,7 +79,8 @@ counts-left = (refl, refl, refl, refl)
 pub index-left : (left-A.count ≡ 8)
     × (good_order (rows left-A.columns.vars left-A.columns.lows left-A.columns.highs) left-A.count left-A.columns.heads
     left-A.columns.links ≡ true)
-unfolding verdict clauses_from place clause diagram_from same? record_at above rup value_from diagram_at ℕ_discrete conjunction cofactor units_to
+unfolding verdict clauses_from place clause diagram_from same? record_at above rup value_from diagram_at ℕ_discrete conjunction cofactor
+    units_to
     pr witnessed in_word
     outcome stored_as rows good_order bucket
 index-left = (refl, refl)

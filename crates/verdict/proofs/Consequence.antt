@@ -133,7 +133,8 @@ module _ (form : Form) (s : ℕ) (text proof : List ℕ) where
       → (a : Assignment) → satisfies a (clauses_of (formula text)) ≡ true → AllOne a fs
   unfolding clauses_of
   begun-follow {n} {many} {t} {ms} {fs} M a sat =
-      subst (AllOne a) (sym (sym (append-nil fs) ∙ (underway s text n many M).clauses)) (satisfied-clauses a (clauses_of (formula text)) sat)
+      subst (AllOne a) (sym (sym (append-nil fs) ∙ (underway s text n many M).clauses))
+      (satisfied-clauses a (clauses_of (formula text)) sat)
 
   -- every member of a reached state, at an assignment of the header's variables
   reached-follow : {n : ℕ} {st : State} {at : ℕ} {m : Meant} → Reached profile s text proof n st at m
@@ -241,7 +242,8 @@ module _ (s : ℕ) (text proof : List ℕ) (none : without_pr proof ≡ true) wh
   unfolding verdict
   verdict-alike = go (header text)
     where
-      go : (h : Header) → check_after_header (in_form Records true) s text proof h ≡ check_after_header (in_form Records false) s text proof h
+      go : (h : Header) → check_after_header (in_form Records true) s text proof h
+          ≡ check_after_header (in_form Records false) s text proof h
       go (Proper n many at) = clauses-alike n emptied [] (clauses_from text n many at)
       go (Improper number place) = refl
 

@@ -75,7 +75,8 @@ module _ (mode : Mode) (s : ℕ) (text proof : List ℕ) where
       A = reached-ahead R
 
       go : (steps : ℕ) → length proof - at < steps → verdict mode s text proof ≡ commands steps mode n s proof st at
-          → (rest : ℕ) × (verdict mode s text proof ≡ after_step x st at (λ st'. commands rest mode n s proof st' (next_in mode proof n at)))
+          → (rest : ℕ) × (verdict mode s text proof ≡ after_step x st at
+          (λ st'. commands rest mode n s proof st' (next_in mode proof n at)))
       go zero enough is = absurd (omega arith)
       go (suc steps) enough is = (
         steps,

@@ -15,7 +15,8 @@ use Rattle.dimacs.specs.declared.Token.TheVariants.{Closing, Literal, Wrong}
 use Rattle.dimacs.specs.Text.{token_end, between}
 use Rattle.dimacs.specs.Numbers.{is_zero, is_number, unsigned, has_minus, value_of_digits, token_of}
 use Rattle.dimacs.specs.Header.{judged_from, next_word, word, is_header, header_at, header}
-use Rattle.dimacs.specs.Clauses.{Next, closed, ended, refused, literal_then, after_token, clause_from, clause_at, next_clause, Reading, clause}
+use Rattle.dimacs.specs.Clauses.{Next, closed, ended, refused, literal_then, after_token, clause_from, clause_at, next_clause, Reading}
+use Rattle.dimacs.specs.Clauses.{clause}
 use Rattle.dimacs.specs.Clauses.{complete, refusal, reading_then, clauses_from}
 use Rattle.dimacs.proofs.Bounds.{NextIn, next-in}
 
@@ -69,7 +70,8 @@ clause-named s n (suc k) first at =
     let end : ℕ = token_end s at in
     let rest : Next = clause_from s n k first (between s end) in
     either NamedNext (ltb at (length s)) (after_token (token_of n (slice at end s)) first at end rest) (refused 6 first)
-    (after-named (token_of n (slice at end s)) first at end rest (token-named n (slice at end s)) (clause-named s n k first (between s end)))
+    (after-named (token_of n (slice at end s)) first at end rest (token-named n (slice at end s))
+    (clause-named s n k first (between s end)))
     ((omega arith, omega arith))
 
 next-named : (s : List ℕ) (n left at : ℕ) → NamedNext (next_clause s n left at)

@@ -68,7 +68,8 @@ line_marked many ks marks M = record {
   where
     above : (k : ℕ) → length marks ≤ k → get_or (marks ++ 0 ∷ []) k 0 ≡ 0
     above k p = elim (dec_lt k (length (marks ++ 0 ∷ []))) [
-      | yes q ↦ let here : k ≡ length marks = omega (arith, length-append marks (0 ∷ [])) in ap (λ (j : ℕ). get_or (marks ++ 0 ∷ []) j 0) here
+      | yes q ↦ let here : k ≡ length marks = omega (arith, length-append marks (0 ∷ [])) in
+          ap (λ (j : ℕ). get_or (marks ++ 0 ∷ []) j 0) here
           ∙ get_or-append_seam marks 0 [] 0
       | no q ↦ get_or-eq_default (marks ++ 0 ∷ []) 0 (omega arith)
     ]

@@ -110,7 +110,8 @@ module _ (s : ℕ) (text : List ℕ) where
       record {
         later' = later ++ clause_value ls ∷ [];
         counted = λ e. length-append later (clause_value ls ∷ []) ∙ omega (arith, ap (λ (x : State). x.lines) is);
-        are = λ e. ap (λ (x : List Function). x ++ clause_value ls ∷ []) e ∙ append_assoc (clause_functions text) later (clause_value ls ∷ []);
+        are = λ e. ap (λ (x : List Function). x ++ clause_value ls ∷ []) e
+            ∙ append_assoc (clause_functions text) later (clause_value ls ∷ []);
         apart = refl;
       }
   steps_on profile n st m later (struck_out ls) st' T = record

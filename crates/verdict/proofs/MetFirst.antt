@@ -7,7 +7,8 @@ use mathlib.Core.Option.{Option, none, some}
 use Prim.Native.Nat.{ℕ, zero, suc}
 use Rattle.meaning.specs.Diagram.{Diagram, leaf, same}
 use Rattle.meaning.specs.Operations.{Literal, negation, cofactor_literals}
-use Rattle.meaning.specs.Rules.{Line, Propagation, conflicts, first_with_unit, by_units, round, still, taking, propagate, unit_prop, by_diagram}
+use Rattle.meaning.specs.Rules.{Line, Propagation, conflicts, first_with_unit, by_units, round, still, taking, propagate, unit_prop}
+use Rattle.meaning.specs.Rules.{by_diagram}
 use Rattle.meaning.specs.Rules.{rup, after_turn, pr_turns, pr}
 use Rattle.meaning.specs.Words.{in_word}
 use Rattle.paths.specs.Paths.{paths, by_path, path_turns, path_line}

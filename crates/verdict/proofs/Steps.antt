@@ -445,7 +445,8 @@ record-refutes n s st more CutShort offset e = stop-other 10 0 refl e
 record-refutes n s st more UnknownKind offset e = stop-other 9 0 refl e
 record-refutes n s st more NoRecord offset e = stop-other 10 0 refl e
 
-pub refutes-record : (n s : ℕ) (st : State) (more : Bool) (r : Record) (offset : ℕ) → EndRefutes st more r offset → record_step n s st more r
+pub refutes-record : (n s : ℕ) (st : State) (more : Bool) (r : Record) (offset : ℕ) → EndRefutes st more r offset →
+    record_step n s st more r
     ≡ stop 0 offset
 unfolding record_step end_step
 refutes-record n s st more r offset F = rw (F.end, F.none-waits, F.last, F.zero-line, F.here)

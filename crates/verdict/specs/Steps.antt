@@ -1,6 +1,7 @@
 -- The state between the records of a proof, and what each record comes to: the next state, or the end. A line is judged by the rules
 -- over the members' diagrams, and what it makes must find room. (01)
-use Rattle.std.specs.Prelude.{Bool, false, not, ◌&&◌, ◌||◌, cond, List, [], ◌∷◌, ◌++◌, map, ℕ, suc, ◌+◌, ◌-◌, ◌^◌, max, length, get_or, set, replicate, eqb, ltb, leb}
+use Rattle.std.specs.Prelude.{Bool, false, not, ◌&&◌, ◌||◌, cond, List, [], ◌∷◌, ◌++◌, map, ℕ, suc, ◌+◌, ◌-◌, ◌^◌, max, length, get_or, set}
+use Rattle.std.specs.Prelude.{replicate, eqb, ltb, leb}
 use Rattle.meaning.specs.Diagram.{Diagram}
 use Rattle.meaning.specs.Rules.{Line, rup, pr, witnessed}
 use Rattle.meaning.specs.Sets.{parity, at_least}

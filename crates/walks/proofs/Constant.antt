@@ -64,7 +64,8 @@ module _ (t : List Node) (p n : ℕ) where
   unfolding OneMemo
   constant-known memo k inside C e two = rw e at (C k inside (omega arith))
 
-  pub constant-stored : (memo : List ℕ) (k : ℕ) → k < length memo → OneMemo memo t p n → one_at t p n k ≡ true → OneMemo (set memo k k) t p n
+  pub constant-stored : (memo : List ℕ) (k : ℕ) → k < length memo → OneMemo memo t p n → one_at t p n k ≡ true →
+      OneMemo (set memo k k) t p n
   unfolding OneMemo
   constant-stored memo k inside C e = stored (λ i x. i < length t → 2 ≤ x → one_at t p n x ≡ true) memo k k inside (λ _ _. e) (λ i _. C i)
 

@@ -116,7 +116,8 @@ module _ (proof : List ℕ) where
       let takes : 1 ≤ length_of (record_at proof at) = record-takes (record_at proof at) first in
       let on : at + length_of (record_at proof at) ≤ to = walk-most proof (at + length_of (record_at proof at)) to W in
       start-step k start at (to + length_of (record_at proof to)) (omega (arith, takes, on))
-      ∙ start-on k (cond (is_line (record_at proof at)) (at + length_of (record_at proof at)) start) (at + length_of (record_at proof at)) to W
+      ∙ start-on k (cond (is_line (record_at proof at)) (at + length_of (record_at proof at)) start) (at + length_of (record_at proof at))
+      to W
       form (omega (arith, takes, enough))
       ∙ ap (cond (is_line (record_at proof to)) (to + length_of (record_at proof to)))
       (sym (start-step k start at to (omega (arith, takes, on))))
@@ -128,7 +129,8 @@ module _ (proof : List ℕ) where
     again-end (suc k) st at to h = rw (le-ltb at to h)
 
     again-step : (k : ℕ) (st : State) (at to : ℕ) → at < to
-        → again (suc k) n s proof st at to ≡ again k n s proof (again_step n s st (record_at proof at)) (at + length_of (record_at proof at)) to
+        → again (suc k) n s proof st at to ≡ again k n s proof (again_step n s st (record_at proof at))
+        (at + length_of (record_at proof at)) to
     unfolding again
     again-step k st at to h = rw (lt-ltb at to h)
 

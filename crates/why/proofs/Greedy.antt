@@ -218,7 +218,8 @@ module _ (n : ℕ) (g : Diagram) where
           move : suc i - 1 ≡ i
           move = omega arith
 
-          here : (in_word p (suc i) ≡ true → get_or a i false ≡ true) × (in_word p (suc i) ≡ false → N (suc i) ≡ true → get_or a i false ≡ false)
+          here : (in_word p (suc i) ≡ true → get_or a i false ≡ true)
+              × (in_word p (suc i) ≡ false → N (suc i) ≡ true → get_or a i false ≡ false)
           here = rw move at (A.agrees (suc i) (omega arith) (omega (arith, lt, A.long)))
 
           go : (x : Bool) → in_word p (suc i) ≡ x → in_word p (suc i) ≡ get_or a i false

@@ -20,12 +20,14 @@ use Rattle.causes.specs.Causes.{taking_fixes, fixes_within, fixes}
 
 -- ---- more rounds
 
-same_more : (most n : ℕ) (ms : List Diagram) → (propagate (suc most) n ms).rounds ≡ (propagate most n ms).rounds → fixes_within (suc most) n ms
+same_more : (most n : ℕ) (ms : List Diagram) → (propagate (suc most) n ms).rounds ≡ (propagate most n ms).rounds →
+    fixes_within (suc most) n ms
     ≡ fixes_within most n ms
 unfolding propagate fixes_within round
 same_more zero n ms stays = go (conflicts n ms) (first_with_unit n ms) stays
   where
-    go : (b : Bool) (x : Option Diagram) → (cond b (still true) (taking x (λ u. round (by_units n u ms) (propagate zero n (by_units n u ms))))
+    go : (b : Bool) (x : Option Diagram) → (cond b (still true)
+        (taking x (λ u. round (by_units n u ms) (propagate zero n (by_units n u ms))))
         ).rounds ≡ 0
         → cond b [] (taking_fixes x (λ u. units_to n n u ∷ fixes_within zero n (by_units n u ms))) ≡ []
     go true x q = refl
@@ -98,7 +100,8 @@ module _ (m n : ℕ) (more : m ≤ n) where
   not-zero : (f : Diagram) → same (leaf false) f ≡ false → f ≢ leaf false
   not-zero f b e = t≢f (sym (eq-same (leaf false) f (sym e)) ∙ b)
 
-  first_with_unit-width : (ms : List Diagram) → AllReduced m ms → any (same (leaf false)) ms ≡ false → first_with_unit n ms ≡ first_with_unit m ms
+  first_with_unit-width : (ms : List Diagram) → AllReduced m ms → any (same (leaf false)) ms ≡ false → first_with_unit n ms
+      ≡ first_with_unit m ms
   unfolding first_with_unit any
   first_with_unit-width [] o c = refl
   first_with_unit-width (f ∷ fs) o c =

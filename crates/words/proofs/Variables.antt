@@ -148,10 +148,12 @@ shares-some (suc k) a b v lo hi e = go (ℕ_discrete v (suc k)) (λ less. shares
 pub shares-none : (k a b : ℕ) → bit_and a b ≡ 0 → shares k a b ≡ false
 unfolding shares
 shares-none zero a b e = refl
-shares-none (suc k) a b e = ap₂ ◌||◌ (sym (in_and a b (suc k)) ∙ ap (λ (w : ℕ). in_word w (suc k)) e ∙ in-none (suc k)) (shares-none k a b e)
+shares-none (suc k) a b e = ap₂ ◌||◌ (sym (in_and a b (suc k)) ∙ ap (λ (w : ℕ). in_word w (suc k)) e ∙ in-none (suc k))
+    (shares-none k a b e)
 
 -- a variable that both have
-pub shares-found : {A : Type 0} (k a b : ℕ) → shares k a b ≡ true → ((v : ℕ) → 1 ≤ v → v ≤ k → in_word a v ≡ true → in_word b v ≡ true → A) →
+pub shares-found : {A : Type 0} (k a b : ℕ) → shares k a b ≡ true → ((v : ℕ) → 1 ≤ v → v ≤ k → in_word a v ≡ true → in_word b v ≡ true → A)
+    →
     A
 unfolding shares
 shares-found zero a b e f = t≢f (sym e)

@@ -1,7 +1,6 @@
 -- A shared node copied into the book's own table: its outcome is the placing of its diagram, and what is known stays right. The idea: a
 -- node's number falls with each call; a place of the code is one law of Copying. Assumes nothing.
-use Prim.Native.Nat.{ℕ, ◌≤◌, ◌<◌}
-use mathlib.Core.Path.{◌≡◌, refl, ◌∙◌}
+use mathlib.Core.Path.{refl, ◌∙◌}
 use native.Mathlib.Omega.{arith}
 use lib.ListN.{length-set}
 use Rattle.walks.proofs.Here.{Here, here}

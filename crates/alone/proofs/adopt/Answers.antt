@@ -1,10 +1,7 @@
 -- `adopt`: at the start of each turn what is to be placed is what is left to be placed (Adopting). Assumes nothing.
-use Prim.Native.Nat.{◌+◌, ◌-◌, ◌^◌, ◌<◌}
+use Prim.Native.Nat.{◌-◌}
 use native.Mathlib.Omega.{arith}
-use lib.ListN.{length}
-use Rattle.table.specs.Indexed.{table_of}
-use Rattle.alone.proofs.Adopting.{Adopting, adopt-start, adopt-full, adopt-next, adopt-end}
-use borrow.Author.Rules.{rules}
+use Rattle.alone.proofs.Adopting.{adopt-start, adopt-full, adopt-next, adopt-end}
 use Rattle.alone.proofs.adopt.Goals as goal
 
 pub loop-i-init : goal.loop-i-init

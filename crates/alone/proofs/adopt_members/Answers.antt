@@ -1,13 +1,9 @@
 -- `adopt_members`: as `adopt`, and each number that was copied is found at its place (Adopting). Assumes nothing.
-use Prim.Native.Nat.{◌+◌, ◌-◌, ◌*◌, ◌^◌, ◌<◌}
-use mathlib.Core.Path.{◌≡◌, refl, ◌∙◌}
+use Prim.Native.Nat.{◌-◌}
+use mathlib.Core.Path.{refl, ◌∙◌}
 use native.Mathlib.Omega.{arith}
-use lib.ListN.{length, length-set}
-use Rattle.table.specs.Indexed.{table_of, nodes_of}
-use Rattle.walks.specs.Readable.{nodes_in}
-use Rattle.alone.specs.Copies.{FoundAll}
-use Rattle.alone.proofs.Adopting.{Adopting, adopt-start, adopt-full, adopt-next, adopt-end, found_none, found-next, found-end}
-use borrow.Author.Rules.{rules}
+use lib.ListN.{length-set}
+use Rattle.alone.proofs.Adopting.{adopt-start, adopt-full, adopt-next, adopt-end, found_none, found-next, found-end}
 use Rattle.alone.proofs.adopt_members.Goals as goal
 
 pub loop-i-init : goal.loop-i-init

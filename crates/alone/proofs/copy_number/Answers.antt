@@ -4,7 +4,6 @@ use native.Mathlib.Omega.{arith}
 use Rattle.table.specs.Indexed.{table_of}
 use Rattle.alone.specs.Copies.{placed_in}
 use Rattle.alone.proofs.Adopting.{in_table, none_done}
-use borrow.Author.Rules.{rules}
 use Rattle.alone.proofs.copy_number.Goals as goal
 
 pub returns-then-k-count : goal.returns-then-k-count
@@ -18,4 +17,7 @@ returns-then-k-count c =
 
 pub returns : goal.returns
 returns c =
-    record { result_after = none_done _ _ _ _ c.requires.readable _ c.requires.good _ (λ p. absurd (omega (arith, p, c.if-k-count.false))); fact = c.requires.right }
+    record {
+      result_after = none_done _ _ _ _ c.requires.readable _ c.requires.good _ (λ p. absurd (omega (arith, p, c.if-k-count.false)));
+      fact = c.requires.right;
+    }

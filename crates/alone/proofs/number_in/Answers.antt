@@ -2,7 +2,6 @@
 use mathlib.Core.Path.{sym}
 use native.Mathlib.Omega.{arith}
 use Rattle.shares.proofs.Sharing.{number-leaf, number-node}
-use borrow.Author.Rules.{rules}
 use Rattle.alone.proofs.number_in.Goals as goal
 
 pub returns-then-j-lt2 : goal.returns-then-j-lt2

@@ -1,8 +1,7 @@
 -- `share`: at the start of each turn what is to be shared is what is left to be shared (Giving). Assumes nothing.
 use Prim.Native.Nat.{◌-◌}
 use native.Mathlib.Omega.{arith}
-use Rattle.table.specs.Indexed.{table_of}
-use Rattle.alone.proofs.Giving.{Giving, give-start, give-end, low-has, high-has, place-has, give-next}
+use Rattle.alone.proofs.Giving.{give-start, give-end, low-has, high-has, place-has, give-next}
 use Rattle.alone.proofs.share.Goals as goal
 
 pub loop-j-init : goal.loop-j-init

@@ -1,9 +1,9 @@
 -- `excluded` adds up the stored binomials below k. The loop: the sum is that of the binomials passed. Assumes nothing.
 use mathlib.Core.Path.{◌≡◌, sym, ap₂, ◌∙◌}
-use Prim.Native.Nat.{◌≤◌, ◌*◌, ◌-◌, ◌+◌}
+use Prim.Native.Nat.{◌-◌, ◌+◌}
 use native.Mathlib.Omega.{arith}
 use borrow.Author.Rules.{rules}
-use Rattle.binomial.proofs.Counting.{sum_below, sum-none, sum_more, sum_to, excluded-is}
+use Rattle.binomial.proofs.Counting.{sum-none, sum_more, sum_to, excluded-is}
 use Rattle.binomial.proofs.excluded.Goals as goal
 
 pub loop-j-init : goal.loop-j-init

@@ -1,9 +1,7 @@
 -- `excluded` adds up the stored binomials below k. The loop: the sum is that of the binomials passed. Assumes nothing.
-use mathlib.Core.Path.{◌≡◌, sym, ap₂, ◌∙◌}
-use Prim.Native.Nat.{◌≤◌, ◌*◌, ◌-◌, ◌+◌}
-use native.Mathlib.Omega.{arith}
-use borrow.Author.Rules.{rules}
-use Rattle.binomial.proofs.Counting.{sum_below, sum-none, sum_more, sum_to, excluded-is}
+use mathlib.Core.Path.{◌≡◌}
+use Prim.Native.Nat.{◌≤◌, ◌*◌, ◌-◌}
+use Rattle.binomial.proofs.Counting.{sum_below}
 use Rattle.binomial.proofs.excluded.Given as goal
 
 abbrev pub invariant-loop-j : goal.invariant-loop-j

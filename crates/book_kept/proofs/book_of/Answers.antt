@@ -1,6 +1,5 @@
 -- `book_of`: the stage is the one that its byte stands for. Assumes nothing.
 use mathlib.Core.Path.{refl, ap₂}
-use borrow.Author.Rules.{rules}
 use Rattle.book_kept.specs.Kept.{book_of}
 use Rattle.book_kept.proofs.Forms.{staged}
 use Rattle.book_kept.proofs.book_of.Goals as goal

@@ -1,5 +1,4 @@
 -- `kept_as` is the definition's choice (Forms). Assumes nothing.
-use borrow.Author.Rules.{rules}
 use Rattle.book_kept.proofs.Forms.{kept-formula, kept-lines, kept-bound}
 use Rattle.book_kept.proofs.kept_as.Goals as goal
 

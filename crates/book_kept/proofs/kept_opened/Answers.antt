@@ -1,5 +1,4 @@
 -- `kept_opened` is the definition's choice (Forms). Assumes nothing.
-use borrow.Author.Rules.{rules}
 use Rattle.book_kept.proofs.Forms.{opened-is, unopened-is}
 use Rattle.book_kept.proofs.kept_opened.Goals as goal
 

@@ -1,6 +1,5 @@
 -- `book_fits` is the definition's test. Assumes nothing.
 use mathlib.Core.Path.{sym, ◌∙◌}
-use borrow.Author.Rules.{rules}
 use borrow.Author.Tests.{le-leb, lt-leb, eq-eqb, ne_eqb, not-true, not-false}
 use Rattle.book_open.proofs.Sizes.{unfit-columns, fit-columns}
 use Rattle.book_open.proofs.book_fits.Goals as goal

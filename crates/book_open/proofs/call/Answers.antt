@@ -1,6 +1,5 @@
 -- `call`: the tests, then everything emptied. Assumes nothing.
 use mathlib.Core.Path.{sym, ◌∙◌}
-use borrow.Author.Rules.{rules}
 use borrow.Author.Tests.{not-true, not-false}
 use Rattle.book_open.proofs.Opening.{first-unfit, second-unfit, shares-unfit, opens}
 use Rattle.book_open.proofs.call.Goals as goal
@@ -77,7 +76,9 @@ returns c =
     opens _ _ _ _ _ _ _ _ _ _ _ _ _ (sym c.book_fits.ensures ∙ not-false _ c.if-not-book_fits.false-raw)
     (sym c.book_fits-2.ensures ∙ not-false _ c.if-not-book_fits-2.false-raw)
     (sym c.shares_fit.ensures ∙ not-false _ c.if-not-shares_fit.false-raw) _ _ _ _ _ c.empty.ensures.vars_after
-    c.empty.ensures.lows_after c.empty.ensures.highs_after c.empty.ensures.heads_after c.empty.ensures.links_after _ _ _ _ _ _ _ c.clear_lists.ensures.own_after
+    c.empty.ensures.lows_after c.empty.ensures.highs_after c.empty.ensures.heads_after c.empty.ensures.links_after _ _ _ _ _ _ _
+    c.clear_lists.ensures.own_after
     c.clear_lists.ensures.members_after
-    c.clear_lists.ensures.struck_after c.clear_lists-2.ensures.own_after c.clear_lists-2.ensures.members_after c.clear_lists-2.ensures.struck_after c.empty.ensures.members_after _ _
+    c.clear_lists.ensures.struck_after c.clear_lists-2.ensures.own_after c.clear_lists-2.ensures.members_after
+    c.clear_lists-2.ensures.struck_after c.empty.ensures.members_after _ _
     c.as_opened.ensures c.as_opened-2.ensures

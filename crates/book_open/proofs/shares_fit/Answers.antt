@@ -1,5 +1,4 @@
 -- `shares_fit` is the definition's test. Assumes nothing.
-use borrow.Author.Rules.{rules}
 use Rattle.book_open.proofs.Sizes.{first-beyond, second-beyond, both-last}
 use Rattle.book_open.proofs.shares_fit.Goals as goal
 

@@ -1,6 +1,5 @@
 -- `cablesalak_open`: the opening, with every field of what is kept (Forms). Assumes nothing.
 use mathlib.Core.Path.{ap₂, ◌∙◌}
-use borrow.Author.Rules.{rules}
 use Rattle.table.specs.Columns.{columns_made}
 use Rattle.shares.specs.declared.Book.{Book}
 use Rattle.shares.specs.Books.{open_outcome}

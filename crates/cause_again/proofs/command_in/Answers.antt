@@ -1,6 +1,5 @@
 -- `command_in`: the command read, then what the profile lets in. Assumes nothing.
 use mathlib.Core.Path.{ap, ◌∙◌}
-use borrow.Author.Rules.{rules}
 use Rattle.commands.specs.declared.Read as code_read
 use Rattle.profile.specs.Admitted.{admitted}
 use Rattle.cause_again.proofs.command_in.Goals as goal

@@ -1,7 +1,6 @@
 -- `call` says 7, or what the check over the arrays says that the table asks for. Assumes nothing.
 use mathlib.Core.Path.{sym, ◌∙◌}
-use borrow.Author.Rules.{rules}
-use borrow.Author.Tests.{not-true, not-false}
+use borrow.Author.Tests.{not-true}
 use Rattle.session.proofs.Finish.{lent-sized}
 use Rattle.check_call.proofs.Sizes.{called-7, called-done}
 use Rattle.check_call.proofs.call.Goals as goal

@@ -1,7 +1,6 @@
 -- The check over a local memo and marks for up to 4,096 places: the lent part of the marks is zeros. Assumes nothing.
 use native.Mathlib.Omega.{arith}
 use lib.ListN.{length}
-use borrow.Author.Rules.{rules}
 use Rattle.table.proofs.Zeros.{part-zeros, length_part, length_whole}
 use Rattle.check_call.proofs.check_4096.Goals as goal
 

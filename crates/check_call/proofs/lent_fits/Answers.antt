@@ -1,6 +1,5 @@
 -- `lent_fits` is the definition's test. Assumes nothing.
 use mathlib.Core.Path.{sym, ◌∙◌}
-use borrow.Author.Rules.{rules}
 use borrow.Author.Tests.{le-leb, lt-leb, eq-eqb, ne_eqb, not-true, not-false}
 use Rattle.check_call.proofs.Sizes.{unfit-columns, fit-columns}
 use Rattle.check_call.proofs.lent_fits.Goals as goal

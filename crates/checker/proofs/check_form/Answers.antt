@@ -2,7 +2,6 @@
 use mathlib.Core.Path.{◌≡◌, ap, ◌∙◌}
 use mathlib.Core.List.{List}
 use Prim.Native.Nat.{ℕ}
-use borrow.Author.Rules.{rules}
 use Rattle.table.specs.Columns.{Columns}
 use Rattle.commands.specs.declared.Mode.{Mode}
 use Rattle.verdict.specs.Check.{CheckOutcome, check}

@@ -1,7 +1,6 @@
 -- `checker::check_in` meets its contract: the equation is the inner call's, and that 0 means unsatisfiable is the definition's. The idea:
 -- `check-refuted`. Assumes nothing.
 use mathlib.Core.Path.{sym, ap, ◌∙◌}
-use borrow.Author.Rules.{rules}
 use Rattle.verdict.specs.Check.{CheckOutcome}
 use Rattle.verdict.proofs.Refuted.{check-refuted}
 use Rattle.checker.proofs.check_in.Goals as goal

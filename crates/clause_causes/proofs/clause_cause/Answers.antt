@@ -35,15 +35,21 @@ module _ (a : lts.After-make tie.the-claims reads.Pre reads.Post tie.handed_clau
   table₁ = table_of a.make-made.new.vars a.make-made.new.lows a.make-made.new.highs a.make-made.new.heads
       a.make-made.new.links a.make-made.result.count
 
-  larger : Grown (table_in (lent a.before.before.before.before.before.before.before.before.before.before.before.before.before.before.before.before.before.before) a.args.st.count) (clause_of_words a.args.clause.literals)
+  larger : Grown (table_in (lent
+      a.before.before.before.before.before.before.before.before.before.before.before.before.before.before.before.before.before.before)
+      a.args.st.count) (clause_of_words a.args.clause.literals)
       (outcome_at table₁ a.make-made.result)
-  larger = grown (table_in (lent a.before.before.before.before.before.before.before.before.before.before.before.before.before.before.before.before.before.before) a.args.st.count) (held a.before.before.before.before.before.before.before.before.before.before.before.before.before.before.before.before.before.before).entries.good a.args.clause.literals table₁
+  larger = grown (table_in (lent
+      a.before.before.before.before.before.before.before.before.before.before.before.before.before.before.before.before.before.before)
+      a.args.st.count) (held
+      a.before.before.before.before.before.before.before.before.before.before.before.before.before.before.before.before.before.before).entries.good a.args.clause.literals table₁
       a.make-made.result a.make-made.ensures
 
 -- its last try is traced
 module _ (b : lts.After-tried_cause tie.the-claims reads.Pre reads.Post tie.handed_clauses) where
   abbrev table₂ : Table
-  table₂ = table_of b.tried_cause-failed.new.vars b.tried_cause-failed.new.lows b.tried_cause-failed.new.highs b.tried_cause-failed.new.heads b.tried_cause-failed.new.links
+  table₂ = table_of b.tried_cause-failed.new.vars b.tried_cause-failed.new.lows b.tried_cause-failed.new.highs
+      b.tried_cause-failed.new.heads b.tried_cause-failed.new.links
       b.make-made.result.count
 
   abbrev words : List ℕ
@@ -53,7 +59,8 @@ module _ (b : lts.After-tried_cause tie.the-claims reads.Pre reads.Post tie.hand
   back = b.tried_cause-failed.ensures.fact_2.0
 
 pub make-made-requires : goal.make-made-requires
-make-made-requires c = (held c.before.before.before.before.before.before.before.before.before.before.before.before.before.before.before.before.before.before).entries.good
+make-made-requires c = (held
+    c.before.before.before.before.before.before.before.before.before.before.before.before.before.before.before.before.before.before).entries.good
 
 pub tried_cause-failed-requires : goal.tried_cause-failed-requires
 tried_cause-failed-requires c =
@@ -116,11 +123,13 @@ shape_of-fixed c = c.tried_cause-failed.auto.fixed
 pub returns : goal.returns
 returns c =
     record {
-      st_value = (λ R. ap (λ (m : ℕ). told m (clause_cause R.profile R.n (state_of (lent c.before.before.before.before.before.before.before.before.before.before.before.before.before.before.before.before.before.before.before.before.before.before.before.before.before.before.before.before.before.before.before.before.before.before.before.before.before.before.before.before.before.before.before.before.before.before.before.before.before.before.before.before.before.before.before.before.before.before.before.before.before.before.before.before.before.before.before.before.before.before.before.before.before.before) c.args.st) R.literals))
+      st_value = (λ R. ap (λ (m : ℕ). told m (clause_cause R.profile R.n
+          (state_of (lent c.before.before.before.before.before.before.before.before.before.before.before.before.before.before.before.before.before.before.before.before.before.before.before.before.before.before.before.before.before.before.before.before.before.before.before.before.before.before.before.before.before.before.before.before.before.before.before.before.before.before.before.before.before.before.before.before.before.before.before.before.before.before.before.before.before.before.before.before.before.before.before.before.before.before) c.args.st) R.literals))
           (sym c.tried_cause-failed.auto.fixed)
           ∙ code-told (lent c.before.before.before.before.before.before.before.before.before.before.before.before.before.before.before.before.before.before.before.before.before.before.before.before.before.before.before.before.before.before.before.before.before.before.before.before.before.before.before.before.before.before.before.before.before.before.before.before.before.before.before.before.before.before.before.before.before.before.before.before.before.before.before.before.before.before.before.before.before.before.before.before.before.before) c.args.st c.args.clause R (table₁ c.before.before.before.before.before.before.before.before.before.before.before.before.before.before.before.before.before.before.before.before.before.before.before.before.before.before.before.before.before.before.before.before.before.before.before.before.before.before.before.before.before.before.before.before.before.before.before.before.before.before.before.before.before.before.before.before) c.make-made.result c.make-made.ensures c.tried_cause-failed.result
           (words c.before.before.before.before.before.before.before.before.before.before.before.before.before.before.before.before.before.before.before.before.before.before.before.before.before.before.before.before.before.before.before.before.before.before.before) c.tried_cause-failed.ensures.fact_2.1);
-      count_unchanged = code-undone (lent c.before.before.before.before.before.before.before.before.before.before.before.before.before.before.before.before.before.before.before.before.before.before.before.before.before.before.before.before.before.before.before.before.before.before.before.before.before.before.before.before.before.before.before.before.before.before.before.before.before.before.before.before.before.before.before.before.before.before.before.before.before.before.before.before.before.before.before.before.before.before.before.before.before.before) c.args.st c.args.clause (refused c.before.before.before.before.before.before.before.before.before.before.before.before.before.before.before.before.before.before.before.before.before.before.before.before.before.before.before.before.before.before.before.before.before.before.before.before.before.before.before.before.before.before.before.before.before.before.before.before.before.before.before.before.before.before.before.before.before.before.before.before.before.before.before.before.before.before.before.before.before.before.before.before.before.before) (table₁ c.before.before.before.before.before.before.before.before.before.before.before.before.before.before.before.before.before.before.before.before.before.before.before.before.before.before.before.before.before.before.before.before.before.before.before.before.before.before.before.before.before.before.before.before.before.before.before.before.before.before.before.before.before.before.before.before) c.make-made.result c.make-made.ensures (table₂ c.before.before.before.before.before.before.before.before.before.before.before.before.before.before.before.before.before.before.before.before.before.before.before.before.before.before.before.before.before.before.before.before.before.before.before)
+      count_unchanged = code-undone
+          (lent c.before.before.before.before.before.before.before.before.before.before.before.before.before.before.before.before.before.before.before.before.before.before.before.before.before.before.before.before.before.before.before.before.before.before.before.before.before.before.before.before.before.before.before.before.before.before.before.before.before.before.before.before.before.before.before.before.before.before.before.before.before.before.before.before.before.before.before.before.before.before.before.before.before.before) c.args.st c.args.clause (refused c.before.before.before.before.before.before.before.before.before.before.before.before.before.before.before.before.before.before.before.before.before.before.before.before.before.before.before.before.before.before.before.before.before.before.before.before.before.before.before.before.before.before.before.before.before.before.before.before.before.before.before.before.before.before.before.before.before.before.before.before.before.before.before.before.before.before.before.before.before.before.before.before.before.before) (table₁ c.before.before.before.before.before.before.before.before.before.before.before.before.before.before.before.before.before.before.before.before.before.before.before.before.before.before.before.before.before.before.before.before.before.before.before.before.before.before.before.before.before.before.before.before.before.before.before.before.before.before.before.before.before.before.before.before) c.make-made.result c.make-made.ensures (table₂ c.before.before.before.before.before.before.before.before.before.before.before.before.before.before.before.before.before.before.before.before.before.before.before.before.before.before.before.before.before.before.before.before.before.before.before)
           (table_of c.drop_to.new.vars c.drop_to.new.lows c.drop_to.new.highs c.drop_to.new.heads c.drop_to.new.links c.args.st.count)
           (back c.before.before.before.before.before.before.before.before.before.before.before.before.before.before.before.before.before.before.before.before.before.before.before.before.before.before.before.before.before.before.before.before.before.before.before) c.drop_to.ensures;
       marks_after = c.tried_cause-failed.ensures.marks_after ∙ ap unmarked c.make-made.auto.vars;

@@ -1,10 +1,10 @@
 -- `clear_numbers` leaves zeros. The invariant: the places passed hold zeros (ZerosBelow). Assumes nothing.
 use mathlib.Core.Path.{◌≡◌, refl, ◌∙◌}
-use Prim.Native.Nat.{◌-◌, ◌≤◌, ◌<◌}
+use Prim.Native.Nat.{◌-◌, ◌<◌}
 use native.Mathlib.Omega.{arith}
 use lib.ListN.{length, length-set}
 use borrow.Author.Rules.{rules}
-use Rattle.table.proofs.Zeros.{ZerosBelow, cleared-one, cleared-all}
+use Rattle.table.proofs.Zeros.{cleared-one, cleared-all}
 use Rattle.clearing.proofs.clear_numbers.Goals as goal
 
 pub loop-i-init : goal.loop-i-init

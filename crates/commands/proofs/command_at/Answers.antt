@@ -1,5 +1,4 @@
 -- `command_at`: the reader of the form. Assumes nothing.
-use borrow.Author.Rules.{rules}
 use Rattle.commands.proofs.command_at.Goals as goal
 
 pub returns-in-Records : goal.returns-in-Records

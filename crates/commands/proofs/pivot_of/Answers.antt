@@ -1,6 +1,5 @@
 -- `pivot_of`: what the first token says, by its kind. Assumes nothing.
 use mathlib.Core.Path.{ap, sym}
-use borrow.Author.Rules.{rules}
 use Rattle.commands.specs.Inner.{pivot_at}
 use Rattle.commands.proofs.pivot_of.Goals as goal
 

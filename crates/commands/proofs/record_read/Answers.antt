@@ -1,7 +1,6 @@
 -- `record_read`: the record at the place and the place behind it. Assumes nothing.
 use native.Mathlib.Omega.{arith}
 use Rattle.commands.proofs.Stream.{record-short, record-read-is}
-use borrow.Author.Rules.{rules}
 use Rattle.commands.proofs.record_read.Goals as goal
 
 pub overflow_add-next : goal.overflow_add-next

@@ -1,5 +1,4 @@
 -- `start_of`: the first byte of records, the first token of a text. Assumes nothing.
-use borrow.Author.Rules.{rules}
 use Rattle.commands.proofs.start_of.Goals as goal
 
 pub returns-in-Text : goal.returns-in-Text

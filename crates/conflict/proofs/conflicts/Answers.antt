@@ -4,7 +4,6 @@ use mathlib.Core.Path.{◌≡◌, sym, ap, ◌∙◌}
 use mathlib.Core.Bool.{false}
 use native.Mathlib.Omega.{arith}
 use lib.ListN.{length}
-use borrow.Author.Rules.{rules}
 use Rattle.table.specs.Indexed.{Table, table_of, nodes_of}
 use Rattle.table.proofs.Written.{good-ordered}
 use Rattle.conflict.specs.Marks.{is_listed, set_all, unmarked}

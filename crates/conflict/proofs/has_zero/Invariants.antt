@@ -1,11 +1,8 @@
 -- The walk over the list: what is to be found is what is left to be found. Assumes nothing.
-use mathlib.Core.Path.{◌≡◌, refl, sym, ◌∙◌}
+use mathlib.Core.Path.{◌≡◌}
 use Prim.Native.Nat.{◌-◌, ◌≤◌}
-use native.Mathlib.Omega.{arith}
 use lib.ListN.{length, drop}
-use borrow.Author.Rules.{rules}
 use Rattle.conflict.specs.Marks.{is_listed}
-use Rattle.conflict.proofs.Marks.{listed_here, listed-later, listed-none}
 use Rattle.conflict.proofs.has_zero.Given as goal
 
 abbrev pub invariant-loop-i : goal.invariant-loop-i

@@ -1,7 +1,6 @@
 -- Each way out is the definition's. Assumes nothing.
 use mathlib.Core.Path.{ap}
 use mathlib.Core.Bool.{not}
-use borrow.Author.Rules.{rules}
 use Rattle.conflict.specs.Members.{asks}
 use Rattle.conflict.proofs.is_asked.Goals as goal
 

@@ -2,7 +2,6 @@
 use mathlib.Core.Path.{sym, ap, subst}
 use lib.ListN.{length}
 use Rattle.conflict.specs.Marks.{marked_at, FoundInside}
-use borrow.Author.Rules.{rules}
 use Rattle.conflict.proofs.is_marked.Goals as goal
 
 -- src/lib.rt:47:13

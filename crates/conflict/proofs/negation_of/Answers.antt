@@ -1,6 +1,5 @@
 -- Each way out says what the walk without a memo found. Assumes nothing.
 use mathlib.Core.Path.{subst}
-use borrow.Author.Rules.{rules}
 use borrow.Author.Tests.{not-false}
 use Rattle.table.specs.Indexed.{Table, table_of}
 use Rattle.negate.specs.Negations.{Negates}

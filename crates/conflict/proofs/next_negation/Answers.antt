@@ -2,12 +2,11 @@
 use mathlib.Core.Path.{sym, ◌∙◌, subst}
 use Prim.Native.Nat.{◌-◌}
 use native.Mathlib.Omega.{arith}
-use lib.ListN.{length, get_or}
-use borrow.Author.Rules.{rules}
+use lib.ListN.{get_or}
 use Rattle.meaning.proofs.Booleans.{t≢f}
 use Rattle.table.specs.Indexed.{Table, table_of, nodes_of}
 use Rattle.walks.proofs.Here.{good-readable}
-use Rattle.conflict.specs.Members.{NegationSays, Passed}
+use Rattle.conflict.specs.Members.{NegationSays}
 use Rattle.conflict.proofs.Asked.{passed_none, passed-next}
 use Rattle.conflict.proofs.next_negation.Goals as goal
 

@@ -1,14 +1,8 @@
 -- The walk over the asked: those passed over have no negation but 0. Assumes nothing.
-use mathlib.Core.Path.{sym, ◌∙◌, subst}
 use Prim.Native.Nat.{◌-◌}
-use native.Mathlib.Omega.{arith}
-use lib.ListN.{length, get_or}
-use borrow.Author.Rules.{rules}
-use Rattle.meaning.proofs.Booleans.{t≢f}
-use Rattle.table.specs.Indexed.{Table, table_of, nodes_of}
-use Rattle.walks.proofs.Here.{good-readable}
-use Rattle.conflict.specs.Members.{NegationSays, Passed}
-use Rattle.conflict.proofs.Asked.{passed_none, passed-next}
+use lib.ListN.{length}
+use Rattle.table.specs.Indexed.{table_of}
+use Rattle.conflict.specs.Members.{Passed}
 use Rattle.conflict.proofs.next_negation.Given as goal
 
 abbrev pub invariant-loop-i : goal.invariant-loop-i

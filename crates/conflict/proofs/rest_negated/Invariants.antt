@@ -1,17 +1,10 @@
 -- The walk over the asked: none of them so far has its negation listed, while the memo stays right. Assumes nothing.
-use mathlib.Core.Path.{◌≡◌, refl, sym, ap, ◌∙◌, subst}
-use mathlib.Core.Logic.{⊎_elim}
-use mathlib.Core.List.{List}
-use Prim.Native.Nat.{ℕ, ◌-◌}
-use native.Mathlib.Omega.{arith}
+use mathlib.Core.Path.{◌≡◌}
+use Prim.Native.Nat.{◌-◌}
 use lib.ListN.{length}
-use borrow.Author.Rules.{rules}
-use Rattle.table.specs.Indexed.{Table, table_of, nodes_of}
-use Rattle.walks.proofs.Here.{good-readable}
+use Rattle.table.specs.Indexed.{table_of}
 use Rattle.negate.specs.Negations.{NegationMemo}
-use Rattle.negate.proofs.Entries.{negations-cleared}
-use Rattle.conflict.specs.Marks.{FoundInside}
-use Rattle.conflict.proofs.Marked.{found_inside, StillAsked, still-unasked, still-unmarked, marked-conflict, still-none}
+use Rattle.conflict.proofs.Marked.{StillAsked}
 use Rattle.conflict.proofs.rest_negated.Given as goal
 
 abbrev pub invariant-loop-i : goal.invariant-loop-i

@@ -1,10 +1,9 @@
 -- The walk over the list: what is to be set is what is left to be set. Assumes nothing.
-use mathlib.Core.Path.{◌≡◌, refl, sym, ◌∙◌}
-use Prim.Native.Nat.{◌-◌, ◌≤◌}
+use mathlib.Core.Path.{refl, sym, ◌∙◌}
+use Prim.Native.Nat.{◌-◌}
 use native.Mathlib.Omega.{arith}
-use lib.ListN.{length, get_or, drop, length-set}
+use lib.ListN.{get_or, length-set}
 use borrow.Author.Rules.{rules}
-use Rattle.conflict.specs.Marks.{set_all}
 use Rattle.conflict.proofs.Marks.{set-step, set-end}
 use Rattle.conflict.proofs.set_all.Goals as goal
 

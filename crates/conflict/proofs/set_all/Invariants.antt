@@ -1,11 +1,8 @@
 -- The walk over the list: what is to be set is what is left to be set. Assumes nothing.
-use mathlib.Core.Path.{◌≡◌, refl, sym, ◌∙◌}
+use mathlib.Core.Path.{◌≡◌}
 use Prim.Native.Nat.{◌-◌, ◌≤◌}
-use native.Mathlib.Omega.{arith}
-use lib.ListN.{length, get_or, drop, length-set}
-use borrow.Author.Rules.{rules}
+use lib.ListN.{length, drop}
 use Rattle.conflict.specs.Marks.{set_all}
-use Rattle.conflict.proofs.Marks.{set-step, set-end}
 use Rattle.conflict.proofs.set_all.Given as goal
 
 abbrev pub invariant-loop-i : goal.invariant-loop-i

@@ -1,6 +1,5 @@
 -- The asked are asked without a memo as far as that goes, and from there with one. Assumes nothing.
 use mathlib.Core.Path.{sym, subst}
-use borrow.Author.Rules.{rules}
 use Rattle.table.specs.Indexed.{Table, table_of, nodes_of}
 use Rattle.conflict.specs.Members.{AskedThin}
 use Rattle.conflict.proofs.Marked.{StillAsked, still-none}

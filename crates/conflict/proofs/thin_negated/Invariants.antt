@@ -1,13 +1,8 @@
 -- The walk over the asked whose negations are nodes: none so far is marked. Assumes nothing.
-use Prim.Native.Nat.{◌-◌, ◌≤◌, ◌<◌}
-use native.Mathlib.Omega.{arith}
-use lib.ListN.{length, get_or}
-use borrow.Author.Rules.{rules}
-use borrow.Author.Tests.{eq-eqb, ne_eqb, not-false}
-use Rattle.table.specs.declared.Found.TheVariants.{At}
-use Rattle.table.specs.Indexed.{Table, table_of}
-use Rattle.conflict.specs.Members.{NegatedBy}
-use Rattle.conflict.proofs.Marked.{StillAsked, still-passed, still-unmarked, marked-conflict}
+use Prim.Native.Nat.{◌-◌, ◌≤◌}
+use lib.ListN.{length}
+use Rattle.table.specs.Indexed.{table_of}
+use Rattle.conflict.proofs.Marked.{StillAsked}
 use Rattle.conflict.proofs.thin_negated.Given as goal
 
 abbrev pub invariant-loop-i : goal.invariant-loop-i

@@ -1,12 +1,11 @@
 -- `read_clauses` says what the definition says of the clauses: at the loop's head what is to be said is what is left to be said
 -- (Building). Assumes nothing.
-use mathlib.Core.Path.{◌≡◌, refl, sym, ◌∙◌}
+use mathlib.Core.Path.{refl, sym, ◌∙◌}
 use Prim.Native.Nat.{◌-◌}
 use native.Mathlib.Omega.{arith}
-use lib.ListN.{length, length-set}
-use borrow.Author.Rules.{rules}
-use Rattle.table.specs.Indexed.{table_of, Outcome, outcome_of}
-use Rattle.formula.proofs.Building.{Building, building-start, building-end, building-refused, building-more, building-full}
+use lib.ListN.{length-set}
+use Rattle.table.specs.Indexed.{Outcome, outcome_of}
+use Rattle.formula.proofs.Building.{building-start, building-end, building-refused, building-more, building-full}
 use Rattle.formula.proofs.Building.{building-next}
 use Rattle.formula.proofs.read_clauses.Reads as reads
 use Rattle.formula.proofs.read_clauses.Lts as lts
@@ -14,7 +13,8 @@ use Rattle.formula.proofs.read_clauses.Tie as tie
 use Rattle.formula.proofs.read_clauses.Goals as goal
 
 -- what making the clause leaves
-module _ (a : lts.After-make tie.the-claims reads.Pre reads.Post goal.the-invariant-loop-number goal.the-decreases-loop-number tie.handed_clauses) where
+module _ (a : lts.After-make tie.the-claims reads.Pre reads.Post goal.the-invariant-loop-number goal.the-decreases-loop-number
+    tie.handed_clauses) where
   abbrev left : Outcome
   left =
       outcome_of a.make-p.new.vars a.make-p.new.lows a.make-p.new.highs a.make-p.new.heads a.make-p.new.links a.make-p.result

@@ -1,19 +1,18 @@
 -- `read_clauses` says what the definition says of the clauses: at the loop's head what is to be said is what is left to be said
 -- (Building). Assumes nothing.
-use mathlib.Core.Path.{◌≡◌, refl, sym, ◌∙◌}
+use mathlib.Core.Path.{◌≡◌}
 use Prim.Native.Nat.{◌-◌}
-use native.Mathlib.Omega.{arith}
-use lib.ListN.{length, length-set}
-use borrow.Author.Rules.{rules}
-use Rattle.table.specs.Indexed.{table_of, Outcome, outcome_of}
-use Rattle.formula.proofs.Building.{Building, building-start, building-end, building-refused, building-more, building-full}
-use Rattle.formula.proofs.Building.{building-next}
+use lib.ListN.{length}
+use Rattle.table.specs.Indexed.{table_of}
+use Rattle.formula.proofs.Building.{Building}
 use Rattle.formula.proofs.read_clauses.Given as goal
 
 abbrev pub invariant-loop-number : goal.invariant-loop-number
 invariant-loop-number l =
-    Building l.variables l.wanted l.from l.formula (length l.initial.vars) (table_of l.vars l.lows l.highs l.heads l.links l.count) l.members l.made l.at
-    × (length l.vars ≡ length l.initial.vars) × (length l.lows ≡ length l.initial.lows) × (length l.highs ≡ length l.initial.highs) × (length l.heads ≡ length l.initial.heads)
+    Building l.variables l.wanted l.from l.formula (length l.initial.vars) (table_of l.vars l.lows l.highs l.heads l.links l.count)
+    l.members l.made l.at
+    × (length l.vars ≡ length l.initial.vars) × (length l.lows ≡ length l.initial.lows) × (length l.highs ≡ length l.initial.highs)
+    × (length l.heads ≡ length l.initial.heads)
     × (length l.links ≡ length l.initial.links) × (length l.members ≡ length l.initial.members)
 
 abbrev pub decreases-loop-number : goal.decreases-loop-number

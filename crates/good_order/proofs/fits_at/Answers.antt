@@ -3,7 +3,6 @@ use mathlib.Core.Path.{sym, ◌∙◌}
 use native.Mathlib.Omega.{arith}
 use borrow.Author.Tests.{not-true, not-false}
 use Rattle.table.proofs.Places.{fits_read, unfit-zero, unfit-great, unfit-low, unfit-high, unfit-equal, unfit-above, fit-above}
-use borrow.Author.Rules.{rules}
 use Rattle.good_order.proofs.fits_at.Goals as goal
 
 pub returns-then-v-lt1 : goal.returns-then-v-lt1

@@ -3,7 +3,6 @@ use mathlib.Core.Path.{sym, ◌∙◌}
 use borrow.Author.Tests.{not-true, not-false}
 use Rattle.meaning.proofs.Booleans.{t≢f}
 use Rattle.good_order.proofs.Testing.{says-no, node-decided}
-use borrow.Author.Rules.{rules}
 use Rattle.good_order.proofs.node_fits.Goals as goal
 
 pub returns-then-not-fits_at : goal.returns-then-not-fits_at

@@ -1,9 +1,9 @@
 -- `nodes_fit` tells whether all nodes and their links are as good order asks. Assumes nothing.
-use Prim.Native.Nat.{◌≤◌, ◌-◌}
+use Prim.Native.Nat.{◌-◌}
 use native.Mathlib.Omega.{arith}
 use borrow.Author.Tests.{not-true, not-false}
 use Rattle.table.specs.Indexed.{table_of}
-use Rattle.good_order.specs.Tested.{NodeFits, NodesFit}
+use Rattle.good_order.specs.Tested.{NodeFits}
 use Rattle.good_order.proofs.Testing.{says-no, says-yes, one_more}
 use borrow.Author.Rules.{rules}
 use Rattle.good_order.proofs.nodes_fit.Goals as goal

@@ -1,11 +1,7 @@
 -- `nodes_fit` tells whether all nodes and their links are as good order asks. Assumes nothing.
 use Prim.Native.Nat.{◌≤◌, ◌-◌}
-use native.Mathlib.Omega.{arith}
-use borrow.Author.Tests.{not-true, not-false}
 use Rattle.table.specs.Indexed.{table_of}
-use Rattle.good_order.specs.Tested.{NodeFits, NodesFit}
-use Rattle.good_order.proofs.Testing.{says-no, says-yes, one_more}
-use borrow.Author.Rules.{rules}
+use Rattle.good_order.specs.Tested.{NodesFit}
 use Rattle.good_order.proofs.nodes_fit.Given as goal
 
 abbrev pub invariant-loop-k : goal.invariant-loop-k

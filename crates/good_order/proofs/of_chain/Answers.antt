@@ -1,7 +1,6 @@
 -- `of_chain` tells whether a number is 0 or a node of the chain below a place. Assumes nothing.
 use native.Mathlib.Omega.{arith}
 use Rattle.good_order.proofs.Testing.{says-no, says-yes, chain-decided}
-use borrow.Author.Rules.{rules}
 use Rattle.good_order.proofs.of_chain.Goals as goal
 
 pub returns-then-j-eq0 : goal.returns-then-j-eq0

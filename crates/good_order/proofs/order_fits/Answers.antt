@@ -74,7 +74,11 @@ returns-then-not-nodes_fit c = sym (refused _ (lent _ _ _ _ _ _ c.requires c.if-
     (nodes-pass _ (lent _ _ _ _ _ _ c.requires c.if-count-lt2.false c.if-vars-count.false) R)))
 
 pub index_fits-requires : goal.index_fits-requires
-index_fits-requires c = record { lent_sizes = (lent _ _ _ _ _ _ c.requires c.if-count-lt2.false c.if-vars-count.false); nodes_fit = c.nodes_fit.ensures.yes (not-false _ c.if-not-nodes_fit.false-raw) }
+index_fits-requires c = record {
+  lent_sizes = (lent _ _ _ _ _ _ c.requires c.if-count-lt2.false c.if-vars-count.false);
+  nodes_fit =
+      c.nodes_fit.ensures.yes (not-false _ c.if-not-nodes_fit.false-raw);
+}
 
 pub returns : goal.returns
 returns c = decided _ (lent _ _ _ _ _ _ c.requires c.if-count-lt2.false

@@ -1,14 +1,13 @@
 -- `reached` tells where the walk down a node's chain comes to it. Assumes nothing.
-use mathlib.Core.Logic.{⊎_elim}
 use native.Mathlib.Omega.{arith}
 use borrow.Author.Tests.{eq-eqb, ne_eqb}
 use Rattle.table.specs.Nodes.{alike}
 use Rattle.table.specs.Indexed.{table_of}
 use Rattle.good_order.proofs.Right.{link-less}
-use Rattle.good_order.proofs.Testing.{Walking, walk-past, walk-head, walk_start, walk-next, walk-hit, walk-found, walk_end}
-use borrow.Author.Rules.{rules}
+use Rattle.good_order.proofs.Testing.{walk-past, walk-head, walk_start, walk-next, walk-hit, walk-found, walk_end}
 use Rattle.good_order.proofs.reached.Goals as goal
-use Rattle.good_order.proofs.reached.Goals.{else-vars-j-via-then-vars-j+then-lows-j+else-highs-j, else-vars-j-via-then-vars-j+else-lows-j, else-vars-j-via-else-vars-j}
+use Rattle.good_order.proofs.reached.Goals.{else-vars-j-via-then-vars-j+then-lows-j+else-highs-j, else-vars-j-via-then-vars-j+else-lows-j}
+use Rattle.good_order.proofs.reached.Goals.{else-vars-j-via-else-vars-j}
 
 pub overflow_cast-j : goal.overflow_cast-j
 overflow_cast-j c = omega (arith, c.shared_slice_known-9-1.given c.bucket_of-b.result)
@@ -49,7 +48,8 @@ unfolding alike
 loop-j-preserved c = let next = walk-next _ c.requires.lent_sizes.0 c.requires.nodes_fit _ _
     c.requires.lent_sizes.1 c.loop-j-test.true c.loop-j.invariant in
     elim c.else-vars-j.branch [
-      | else-vars-j-via-then-vars-j+then-lows-j+else-highs-j w ↦ next (rw (eq-eqb _ _ w.if-vars-j.true, w.if-lows-j.true-raw, w.if-highs-j.false-raw))
+      | else-vars-j-via-then-vars-j+then-lows-j+else-highs-j w ↦ next
+          (rw (eq-eqb _ _ w.if-vars-j.true, w.if-lows-j.true-raw, w.if-highs-j.false-raw))
       | else-vars-j-via-then-vars-j+else-lows-j w ↦ next (rw (eq-eqb _ _ w.if-vars-j.true, w.if-lows-j.false-raw))
       | else-vars-j-via-else-vars-j w ↦ next (rw (ne_eqb _ _ w.if-vars-j.false))
     ]

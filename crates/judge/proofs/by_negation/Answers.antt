@@ -5,7 +5,6 @@ use mathlib.Core.List.{List}
 use Prim.Native.Nat.{ℕ, ◌≤◌, ◌<◌}
 use lib.ListN.{length, take}
 use lib.Seq.{length-take-le}
-use borrow.Author.Rules.{rules}
 use Rattle.table.specs.Nodes.{diagram_at}
 use Rattle.table.specs.Indexed.{Table, table_of, nodes_of, Outcome, outcome_of}
 use Rattle.operate.specs.declared.Operation.TheVariants.{Negation, Cofactor}
@@ -98,10 +97,13 @@ by_node-by-requires c =
     c.apply-not.ensures.result_after in
     let memo-length : length memo₁ ≡ length c.args.memo.now =
     c.apply-not.auto.memo ∙ c.clear_memo.auto.memo in
-    let members-ready : (e : made.full ≡ false) → ListReady made.table c.args.members.now memo₁ × (made.node < made.table.count) × Allowed Cofactor made.node =
+    let members-ready : (e : made.full ≡ false) → ListReady made.table c.args.members.now memo₁ × (made.node < made.table.count)
+    × Allowed Cofactor made.node =
     λ e. cofactors-ready before c.args.members.now c.args.memo.now c.args.g.0
     c.requires.fact.0 made made-is e memo₁ memo-length in
-    let worded : (e : made.full ≡ false) → (length c.args.memberwords.now ≡ length c.args.members.now) × Supports (nodes_of made.table) c.args.members.now c.args.memberwords.now × Support c.args.word (diagram_at (nodes_of made.table) made.node) =
+    let worded : (e : made.full ≡ false) → (length c.args.memberwords.now ≡ length c.args.members.now)
+    × Supports (nodes_of made.table) c.args.members.now c.args.memberwords.now
+    × Support c.args.word (diagram_at (nodes_of made.table) made.node) =
     λ e. negation-words before c.args.members.now c.args.memo.now c.args.g.0 c.requires.fact.0 made
     made-is e c.args.memberwords.now c.args.word c.requires.fact_2.0 in
     let e = c.if-not.false in
@@ -165,10 +167,13 @@ all_by-requires c =
     c.apply-not.ensures.result_after in
     let memo-length : length memo₁ ≡ length c.args.memo.now =
     c.apply-not.auto.memo ∙ c.clear_memo.auto.memo in
-    let members-ready : (e : made.full ≡ false) → ListReady made.table c.args.members.now memo₁ × (made.node < made.table.count) × Allowed Cofactor made.node =
+    let members-ready : (e : made.full ≡ false) → ListReady made.table c.args.members.now memo₁ × (made.node < made.table.count)
+    × Allowed Cofactor made.node =
     λ e. cofactors-ready before c.args.members.now c.args.memo.now c.args.g.0
     c.requires.fact.0 made made-is e memo₁ memo-length in
-    let worded : (e : made.full ≡ false) → (length c.args.memberwords.now ≡ length c.args.members.now) × Supports (nodes_of made.table) c.args.members.now c.args.memberwords.now × Support c.args.word (diagram_at (nodes_of made.table) made.node) =
+    let worded : (e : made.full ≡ false) → (length c.args.memberwords.now ≡ length c.args.members.now)
+    × Supports (nodes_of made.table) c.args.members.now c.args.memberwords.now
+    × Support c.args.word (diagram_at (nodes_of made.table) made.node) =
     λ e. negation-words before c.args.members.now c.args.memo.now c.args.g.0 c.requires.fact.0 made
     made-is e c.args.memberwords.now c.args.word c.requires.fact_2.0 in
     let copied : List ℕ =
@@ -251,10 +256,12 @@ returns c =
     c.apply-not.ensures.result_after in
     let memo-length : length memo₁ ≡ length c.args.memo.now =
     c.apply-not.auto.memo ∙ c.clear_memo.auto.memo in
-    let members-ready : (e : made.full ≡ false) → ListReady made.table c.args.members.now memo₁ × (made.node < made.table.count) × Allowed Cofactor made.node =
+    let members-ready : (e : made.full ≡ false) → ListReady made.table c.args.members.now memo₁ × (made.node < made.table.count)
+    × Allowed Cofactor made.node =
     λ e. cofactors-ready before c.args.members.now c.args.memo.now c.args.g.0
     c.requires.fact.0 made made-is e memo₁ memo-length in
-    let made_by : let r = c.by_node-by.result in results r.op made.table c.copy.new.to r.g.0 ≡ results Cofactor made.table c.args.members.now made.node =
+    let made_by : let r = c.by_node-by.result in results r.op made.table c.copy.new.to r.g.0
+    ≡ results Cofactor made.table c.args.members.now made.node =
     let r = c.by_node-by.result in
     let R = members-ready c.if-not.false in
     ap (λ l. results r.op made.table l r.g.0) c.copy.ensures

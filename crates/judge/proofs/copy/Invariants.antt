@@ -1,10 +1,8 @@
 -- `copy` leaves the list that it was given. The invariant: the places passed are alike. Assumes nothing.
-use mathlib.Core.Path.{◌≡◌, refl, ◌∙◌}
-use Prim.Native.Nat.{◌-◌, ◌≤◌, ◌<◌}
-use native.Mathlib.Omega.{arith}
-use lib.ListN.{length, get_or, length-set}
-use borrow.Author.Rules.{rules}
-use Rattle.judge.proofs.Copies.{Alike, alike-one, alike_all}
+use mathlib.Core.Path.{◌≡◌}
+use Prim.Native.Nat.{◌-◌, ◌≤◌}
+use lib.ListN.{length}
+use Rattle.judge.proofs.Copies.{Alike}
 use Rattle.judge.proofs.copy.Given as goal
 
 abbrev pub invariant-loop-i : goal.invariant-loop-i

@@ -1,10 +1,10 @@
 -- `copy_words` leaves the list that it was given. The invariant: the places passed are alike. Assumes nothing.
 use mathlib.Core.Path.{◌≡◌, refl, ◌∙◌}
-use Prim.Native.Nat.{◌-◌, ◌≤◌, ◌<◌}
+use Prim.Native.Nat.{◌-◌, ◌<◌}
 use native.Mathlib.Omega.{arith}
 use lib.ListN.{length, get_or, length-set}
 use borrow.Author.Rules.{rules}
-use Rattle.judge.proofs.Copies.{Alike, alike-one, alike_all}
+use Rattle.judge.proofs.Copies.{alike-one, alike_all}
 use Rattle.judge.proofs.copy_words.Goals as goal
 
 pub loop-i-init : goal.loop-i-init

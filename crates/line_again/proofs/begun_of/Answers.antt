@@ -1,6 +1,5 @@
 -- `begun_of`: the header's two forms, each with its state. Assumes nothing.
 use native.Mathlib.Omega.{arith}
-use borrow.Author.Rules.{rules}
 use Rattle.line_again.proofs.Begins.{few-clauses, begun-proper, begun-improper}
 use Rattle.line_again.proofs.begun_of.Goals as goal
 

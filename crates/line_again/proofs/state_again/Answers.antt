@@ -1,7 +1,6 @@
 -- `state_again`: the state as the line began; in records the line's records done again over it. Assumes nothing.
 use mathlib.Core.Path.{◌≡◌, sym, ◌∙◌}
 use mathlib.Core.Bool.{false}
-use borrow.Author.Rules.{rules}
 use Rattle.commands.specs.Commands.{is_drat}
 use Rattle.state.specs.States.{Lent, lent_of}
 use Rattle.line_again.proofs.Making.{few-lines, made_of, drat-made, start-asks, remake-asks, records-made}
@@ -21,20 +20,28 @@ module _ (c : lts.Else1 tie.the-claims reads.Pre reads.Post tie.handed_clauses) 
 
 module _ (c : lts.After-remake tie.the-claims reads.Pre reads.Post tie.handed_clauses) where
   abbrev returned : Lent
-  returned = lent_of c.remake-state.new.vars c.remake-state.new.lows c.remake-state.new.highs c.remake-state.new.heads c.remake-state.new.links c.remake-state.new.members
+  returned = lent_of c.remake-state.new.vars c.remake-state.new.lows c.remake-state.new.highs c.remake-state.new.heads
+      c.remake-state.new.links c.remake-state.new.members
       c.remake-state.new.scratch c.remake-state.new.struck
 
 pub begun_of-begun-requires : goal.begun_of-begun-requires
 begun_of-begun-requires c =
-    few-lines c.args.mode c.args.formula.now c.args.proof.now (lent c.before.before.before.before.before.before.before.before.before.before.before.before.before)
+    few-lines c.args.mode c.args.formula.now c.args.proof.now
+    (lent c.before.before.before.before.before.before.before.before.before.before.before.before.before)
     c.args.count c.args.lines c.args.place c.requires.0 c.requires.1 c.requires.2
 
 pub returns-then-is_drat : goal.returns-then-is_drat
 returns-then-is_drat c =
     record {
-      made_again = made_of c.args.mode c.args.formula.now c.args.proof.now (lent c.before.before.before.before.before.before.before.before.before.before.before.before.before.before.before.before) c.args.count c.args.lines c.args.place
-          c.requires.0 c.requires.1 c.requires.2 (lent c.before.before.before.before.before.before.before.before.before.before.before.before.before.before.before.before) c.begun_of-begun.result
-          (drat-made c.args.mode c.args.formula.now c.args.proof.now (lent c.before.before.before.before.before.before.before.before.before.before.before.before.before.before.before.before) c.args.count c.args.lines
+      made_again = made_of c.args.mode c.args.formula.now c.args.proof.now
+          (lent c.before.before.before.before.before.before.before.before.before.before.before.before.before.before.before.before)
+          c.args.count c.args.lines c.args.place
+          c.requires.0 c.requires.1 c.requires.2
+          (lent c.before.before.before.before.before.before.before.before.before.before.before.before.before.before.before.before)
+          c.begun_of-begun.result
+          (drat-made c.args.mode c.args.formula.now c.args.proof.now
+          (lent c.before.before.before.before.before.before.before.before.before.before.before.before.before.before.before.before)
+          c.args.count c.args.lines
           c.args.place c.requires.0 c.requires.1 c.requires.2 c.begun_of-begun.result c.begun_of-begun.ensures
           (sym c.is_drat.ensures ∙ c.if-is_drat.true));
       marks_after = c.requires.3;
@@ -42,13 +49,17 @@ returns-then-is_drat c =
 
 pub line_start-from-requires : goal.line_start-from-requires
 line_start-from-requires c =
-    start-asks c.args.mode c.args.formula.now c.args.proof.now (lent c.before.before.before.before.before.before.before.before.before.before.before.before.before.before.before.before) c.args.count c.args.lines c.args.place
+    start-asks c.args.mode c.args.formula.now c.args.proof.now
+    (lent c.before.before.before.before.before.before.before.before.before.before.before.before.before.before.before.before)
+    c.args.count c.args.lines c.args.place
     c.requires.0 c.requires.1 c.requires.2 c.begun_of-begun.result c.begun_of-begun.ensures (records c.before)
 
 pub remake-state-requires : goal.remake-state-requires
 remake-state-requires c =
-    remake-asks c.args.mode c.args.formula.now c.args.proof.now (lent c.before.before.before.before.before.before.before.before.before.before.before.before.before.before.before.before.before.before.before.before.before.before.before.before.before.before.before.before) c.args.count c.args.lines c.args.place
-    c.requires.0 c.requires.1 c.requires.2 c.begun_of-begun.result c.begun_of-begun.ensures (records c.before.before.before.before.before.before.before.before.before.before.before.before.before) c.line_start-from.result
+    remake-asks c.args.mode c.args.formula.now c.args.proof.now
+    (lent c.before.before.before.before.before.before.before.before.before.before.before.before.before.before.before.before.before.before.before.before.before.before.before.before.before.before.before.before) c.args.count c.args.lines c.args.place
+    c.requires.0 c.requires.1 c.requires.2 c.begun_of-begun.result c.begun_of-begun.ensures
+    (records c.before.before.before.before.before.before.before.before.before.before.before.before.before) c.line_start-from.result
     c.line_start-from.ensures c.args.marks.now c.args.memo.now c.requires.3 c.requires.4
 
 pub shape_of-vars : goal.shape_of-vars
@@ -94,11 +105,16 @@ shape_of-struck c =
 pub returns : goal.returns
 returns c =
     record {
-      made_again = made_of c.args.mode c.args.formula.now c.args.proof.now (lent c.before.before.before.before.before.before.before.before.before.before.before.before.before.before.before.before.before.before.before.before.before.before.before.before.before.before.before.before.before.before.before.before.before.before.before.before.before.before.before.before.before.before.before.before.before.before.before.before.before) c.args.count c.args.lines c.args.place
-          c.requires.0 c.requires.1 c.requires.2 (returned c.before.before.before.before.before.before.before.before.before.before.before.before.before.before.before.before.before.before.before.before.before) _
-          (records-made c.args.mode c.args.formula.now c.args.proof.now (lent c.before.before.before.before.before.before.before.before.before.before.before.before.before.before.before.before.before.before.before.before.before.before.before.before.before.before.before.before.before.before.before.before.before.before.before.before.before.before.before.before.before.before.before.before.before.before.before.before.before) c.args.count c.args.lines
-          c.args.place c.requires.0 c.requires.1 c.requires.2 c.begun_of-begun.result c.begun_of-begun.ensures (records c.before.before.before.before.before.before.before.before.before.before.before.before.before.before.before.before.before.before.before.before.before.before.before.before.before.before.before.before.before.before.before.before.before.before)
-          c.line_start-from.result c.line_start-from.ensures (returned c.before.before.before.before.before.before.before.before.before.before.before.before.before.before.before.before.before.before.before.before.before) c.remake-state.result
+      made_again = made_of c.args.mode c.args.formula.now c.args.proof.now
+          (lent c.before.before.before.before.before.before.before.before.before.before.before.before.before.before.before.before.before.before.before.before.before.before.before.before.before.before.before.before.before.before.before.before.before.before.before.before.before.before.before.before.before.before.before.before.before.before.before.before.before) c.args.count c.args.lines c.args.place
+          c.requires.0 c.requires.1 c.requires.2
+          (returned c.before.before.before.before.before.before.before.before.before.before.before.before.before.before.before.before.before.before.before.before.before) _
+          (records-made c.args.mode c.args.formula.now c.args.proof.now
+          (lent c.before.before.before.before.before.before.before.before.before.before.before.before.before.before.before.before.before.before.before.before.before.before.before.before.before.before.before.before.before.before.before.before.before.before.before.before.before.before.before.before.before.before.before.before.before.before.before.before.before) c.args.count c.args.lines
+          c.args.place c.requires.0 c.requires.1 c.requires.2 c.begun_of-begun.result c.begun_of-begun.ensures
+          (records c.before.before.before.before.before.before.before.before.before.before.before.before.before.before.before.before.before.before.before.before.before.before.before.before.before.before.before.before.before.before.before.before.before.before)
+          c.line_start-from.result c.line_start-from.ensures
+          (returned c.before.before.before.before.before.before.before.before.before.before.before.before.before.before.before.before.before.before.before.before.before) c.remake-state.result
           c.remake-state.ensures.fact.0 c.remake-state.ensures.fact.1 c.remake-state.auto.members
           c.remake-state.auto.struck);
       marks_after = c.remake-state.ensures.marks_after;

@@ -1,10 +1,9 @@
 -- The members at the places are made one by one, and the others passed over: `Making` holds at each place. Assumes nothing.
-use mathlib.Core.Path.{◌≡◌, refl, ◌∙◌, subst}
+use mathlib.Core.Path.{refl, ◌∙◌, subst}
 use Prim.Native.Nat.{ℕ, suc, ◌+◌, ◌-◌, ◌≤◌, ◌<◌}
 use native.Mathlib.Omega.{arith}
 use native.Mathlib.Numerals.{add-one}
 use lib.ListN.{length, get_or, get_or-eq_default}
-use borrow.Author.Rules.{rules}
 use Rattle.meaning.proofs.Booleans.{t≢f}
 use Rattle.table.specs.Indexed.{Table, Outcome, table_of, nodes_of}
 use Rattle.table.specs.Lists.{diagrams_of}
@@ -27,7 +26,8 @@ loop-k-init c =
     let a = c.args in table_of a.vars.now a.lows.now a.highs.now a.heads.now a.links.now a.count in
     let a = c.args in (
       making-to-next a.op a.g.0 a.gained a.touching entry a.list.now a.words.now a.memo.now c.requires.fact.0 c.requires.fact.1
-          c.requires.fact.2 c.requires.fact_2.0 c.requires.fact_2.2 c.requires.fact_2.3 entry a.list.now a.words.now c.clear_memo.new.memo 0 a.places.now c.requires.fact_2.4 0
+          c.requires.fact.2 c.requires.fact_2.0 c.requires.fact_2.2 c.requires.fact_2.3 entry a.list.now a.words.now c.clear_memo.new.memo 0
+          a.places.now c.requires.fact_2.4 0
           (omega arith)
           (record {
             members = replacing-none a.op a.g.0 entry a.list.now a.memo.now c.requires.fact.0 c.requires.fact.1 c.clear_memo.new.memo
@@ -58,7 +58,8 @@ member_by-r-requires c =
     table_of c.loop-k.vars c.loop-k.lows c.loop-k.highs c.loop-k.heads c.loop-k.links c.loop-k.n in
     let this : ℕ =
     get_or c.args.places.now c.loop-k.k 0 in
-    let so_far : let a = c.args in Making a.op a.g.0 entry a.list.now a.words.now here c.loop-k.list c.loop-k.words c.loop-k.memo this c.loop-k.written =
+    let so_far : let a = c.args in Making a.op a.g.0 entry a.list.now a.words.now here c.loop-k.list c.loop-k.words c.loop-k.memo this
+    c.loop-k.written =
     let a = c.args in
     subst (λ (x : ℕ). Making a.op a.g.0 entry a.list.now a.words.now here c.loop-k.list c.loop-k.words c.loop-k.memo x
     c.loop-k.written)
@@ -71,13 +72,16 @@ member_by-r-requires c =
         this-inside,
         omega (arith, so_far.rewords.lengths, so_far.members.members, c.requires.fact_2.0, this-inside),
         ready a.op a.g.0 a.gained a.touching entry a.list.now a.words.now a.memo.now c.requires.fact.0 c.requires.fact.1
-            c.requires.fact.2 c.requires.fact_2.0 c.requires.fact_2.2 c.requires.fact_2.3 here c.loop-k.list c.loop-k.words c.loop-k.memo this c.loop-k.written so_far
+            c.requires.fact.2 c.requires.fact_2.0 c.requires.fact_2.2 c.requires.fact_2.3 here c.loop-k.list c.loop-k.words c.loop-k.memo
+            this c.loop-k.written so_far
             this-inside,
         has a.op a.g.0 a.gained a.touching entry a.list.now a.words.now a.memo.now c.requires.fact.0 c.requires.fact.1
-            c.requires.fact.2 c.requires.fact_2.0 c.requires.fact_2.2 c.requires.fact_2.3 here c.loop-k.list c.loop-k.words c.loop-k.memo this c.loop-k.written so_far
+            c.requires.fact.2 c.requires.fact_2.0 c.requires.fact_2.2 c.requires.fact_2.3 here c.loop-k.list c.loop-k.words c.loop-k.memo
+            this c.loop-k.written so_far
             this-inside,
         touches-here a.op a.g.0 a.gained a.touching entry a.list.now a.words.now a.memo.now c.requires.fact.0 c.requires.fact.1
-            c.requires.fact.2 c.requires.fact_2.0 c.requires.fact_2.2 c.requires.fact_2.3 here c.loop-k.list c.loop-k.words c.loop-k.memo this c.loop-k.written so_far
+            c.requires.fact.2 c.requires.fact_2.0 c.requires.fact_2.2 c.requires.fact_2.3 here c.loop-k.list c.loop-k.words c.loop-k.memo
+            this c.loop-k.written so_far
             this-inside,
       );
       xs_len = (c.loop-k.invariant.7, c.loop-k.invariant.8, c.loop-k.invariant.9);
@@ -91,7 +95,8 @@ overflow_add-written c =
     table_of c.loop-k.vars c.loop-k.lows c.loop-k.highs c.loop-k.heads c.loop-k.links c.loop-k.n in
     let this : ℕ =
     get_or c.args.places.now c.loop-k.k 0 in
-    let so_far : let a = c.args in Making a.op a.g.0 entry a.list.now a.words.now here c.loop-k.list c.loop-k.words c.loop-k.memo this c.loop-k.written =
+    let so_far : let a = c.args in Making a.op a.g.0 entry a.list.now a.words.now here c.loop-k.list c.loop-k.words c.loop-k.memo this
+    c.loop-k.written =
     let a = c.args in
     subst (λ (x : ℕ). Making a.op a.g.0 entry a.list.now a.words.now here c.loop-k.list c.loop-k.words c.loop-k.memo x
     c.loop-k.written)
@@ -143,13 +148,15 @@ returns-then-r c =
     table_of c.loop-k.vars c.loop-k.lows c.loop-k.highs c.loop-k.heads c.loop-k.links c.loop-k.n in
     let made : Outcome =
     record {
-      table = table_of c.member_by-r.new.vars c.member_by-r.new.lows c.member_by-r.new.highs c.member_by-r.new.heads c.member_by-r.new.links c.member_by-r.result.count;
+      table = table_of c.member_by-r.new.vars c.member_by-r.new.lows c.member_by-r.new.highs c.member_by-r.new.heads c.member_by-r.new.links
+          c.member_by-r.result.count;
       full = c.member_by-r.result.full;
       node = c.member_by-r.result.node.0;
     } in
     let this : ℕ =
     get_or c.args.places.now c.loop-k.k 0 in
-    let so_far : let a = c.args in Making a.op a.g.0 entry a.list.now a.words.now here c.loop-k.list c.loop-k.words c.loop-k.memo this c.loop-k.written =
+    let so_far : let a = c.args in Making a.op a.g.0 entry a.list.now a.words.now here c.loop-k.list c.loop-k.words c.loop-k.memo this
+    c.loop-k.written =
     let a = c.args in
     subst (λ (x : ℕ). Making a.op a.g.0 entry a.list.now a.words.now here c.loop-k.list c.loop-k.words c.loop-k.memo x
     c.loop-k.written)
@@ -158,7 +165,8 @@ returns-then-r c =
     omega (arith, c.requires.fact_2.4.inside _ c.loop-k-test.true, so_far.members.members) in
     let a = c.args in
     record {
-      fact_3 = stopped a.op a.g.0 entry a.list.now a.memo.now c.requires.fact.0 c.requires.fact.1 c.requires.fact.2 here c.loop-k.list c.loop-k.memo this
+      fact_3 = stopped a.op a.g.0 entry a.list.now a.memo.now c.requires.fact.0 c.requires.fact.1 c.requires.fact.2 here c.loop-k.list
+          c.loop-k.memo this
           so_far.members this-inside made c.member_by-r.ensures.fact_2.outcome c.if-r.true
           c.member_by-r.new.list;
       supports = λ z. t≢f z;
@@ -182,13 +190,15 @@ loop-k-preserved c =
     table_of c.loop-k.vars c.loop-k.lows c.loop-k.highs c.loop-k.heads c.loop-k.links c.loop-k.n in
     let made : Outcome =
     record {
-      table = table_of c.member_by-r.new.vars c.member_by-r.new.lows c.member_by-r.new.highs c.member_by-r.new.heads c.member_by-r.new.links c.member_by-r.result.count;
+      table = table_of c.member_by-r.new.vars c.member_by-r.new.lows c.member_by-r.new.highs c.member_by-r.new.heads c.member_by-r.new.links
+          c.member_by-r.result.count;
       full = c.member_by-r.result.full;
       node = c.member_by-r.result.node.0;
     } in
     let this : ℕ =
     get_or c.args.places.now c.loop-k.k 0 in
-    let so_far : let a = c.args in Making a.op a.g.0 entry a.list.now a.words.now here c.loop-k.list c.loop-k.words c.loop-k.memo this c.loop-k.written =
+    let so_far : let a = c.args in Making a.op a.g.0 entry a.list.now a.words.now here c.loop-k.list c.loop-k.words c.loop-k.memo this
+    c.loop-k.written =
     let a = c.args in
     subst (λ (x : ℕ). Making a.op a.g.0 entry a.list.now a.words.now here c.loop-k.list c.loop-k.words c.loop-k.memo x
     c.loop-k.written)
@@ -205,7 +215,8 @@ loop-k-preserved c =
           c.member_by-r.new.list c.member_by-r.new.words c.member_by-r.new.memo x
           (c.loop-k.written + c.member_by-r.result.written)) (add-one this)
           (making-next a.op a.g.0 a.gained a.touching entry a.list.now a.words.now a.memo.now c.requires.fact.0
-          c.requires.fact.1 c.requires.fact.2 c.requires.fact_2.0 c.requires.fact_2.2 c.requires.fact_2.3 here c.loop-k.list c.loop-k.words c.loop-k.memo this c.loop-k.written so_far
+          c.requires.fact.1 c.requires.fact.2 c.requires.fact_2.0 c.requires.fact_2.2 c.requires.fact_2.3 here c.loop-k.list c.loop-k.words
+          c.loop-k.memo this c.loop-k.written so_far
           this-inside c.member_by-r.result made.table c.member_by-r.new.list c.member_by-r.new.words
           c.member_by-r.new.memo c.member_by-r.ensures.fact_2 c.if-r.false c.member_by-r.ensures.fact_3))),
       c.member_by-r.auto.vars ∙ c.loop-k.invariant.1,
@@ -236,6 +247,7 @@ returns c =
       fact_3 = all-replaced a.op a.g.0 entry a.list.now a.memo.now c.requires.fact.0 c.requires.fact.1 here c.loop-k.list c.loop-k.memo i
           c.loop-k.invariant.0.members t;
       supports = λ z. c.loop-k.invariant.0.supports;
-      written_value = λ z. all-counted a.op a.g.0 entry a.list.now a.memo.now c.requires.fact.0 c.requires.fact.1 here c.loop-k.list c.loop-k.memo i
+      written_value = λ z. all-counted a.op a.g.0 entry a.list.now a.memo.now c.requires.fact.0 c.requires.fact.1 here c.loop-k.list
+          c.loop-k.memo i
           c.loop-k.written c.loop-k.invariant.0.members t c.loop-k.invariant.0.counts;
     }

@@ -2,7 +2,6 @@
 -- `apply_sharing`. Assumes nothing.
 use mathlib.Core.Path.{◌≡◌, sym, ap, ◌∙◌, subst}
 use lib.Bits.{bit_and}
-use borrow.Author.Rules.{rules}
 use borrow.Author.Tests.{not-true, not-false}
 use Rattle.table.specs.Indexed.{Table, table_of, outcome_of}
 use Rattle.operate.specs.Inner.{applied, Shared, Ready}
@@ -35,7 +34,8 @@ returns-then-not-tried c =
     let a = c.args in table_of a.vars.now a.lows.now a.highs.now a.heads.now a.links.now a.count in
     let a = c.args in
     let r = c.requires.fact.0 in
-    let o = outcome_of c.apply_thin-tried.new.vars c.apply_thin-tried.new.lows c.apply_thin-tried.new.highs c.apply_thin-tried.new.heads c.apply_thin-tried.new.links c.apply_thin-tried.result.placed in
+    let o = outcome_of c.apply_thin-tried.new.vars c.apply_thin-tried.new.lows c.apply_thin-tried.new.highs c.apply_thin-tried.new.heads
+    c.apply_thin-tried.new.links c.apply_thin-tried.result.placed in
     let e = c.apply_thin-tried.ensures.placed_after (not-true _ c.if-not-tried.true) in record {
       result_after = e;
       fact_2 = memo-kept a.op a.memo.now entry r.right o.table
@@ -55,7 +55,8 @@ apply_sharing-requires c =
     let r = c.requires.fact.0.operands in
     touched-shared entry r.good a.f.0 a.g.0 r.f-inside r.g_inside a.word a.touching c.requires.fact.1 a.op
     c.requires.fact.2 in
-    let left : table_of c.apply_thin-tried.new.vars c.apply_thin-tried.new.lows c.apply_thin-tried.new.highs c.apply_thin-tried.new.heads c.apply_thin-tried.new.links c.args.count ≡ entry =
+    let left : table_of c.apply_thin-tried.new.vars c.apply_thin-tried.new.lows c.apply_thin-tried.new.highs c.apply_thin-tried.new.heads
+    c.apply_thin-tried.new.links c.args.count ≡ entry =
     c.apply_thin-tried.ensures.count_after (not-false _ c.if-not-tried.false) in
     let a = c.args in
     let r = c.requires.fact.0 in
@@ -88,8 +89,13 @@ pub returns : goal.returns
 returns c =
     let entry : Table =
     let a = c.args in table_of a.vars.now a.lows.now a.highs.now a.heads.now a.links.now a.count in
-    let left : table_of c.apply_thin-tried.new.vars c.apply_thin-tried.new.lows c.apply_thin-tried.new.highs c.apply_thin-tried.new.heads c.apply_thin-tried.new.links c.args.count ≡ entry =
+    let left : table_of c.apply_thin-tried.new.vars c.apply_thin-tried.new.lows c.apply_thin-tried.new.highs c.apply_thin-tried.new.heads
+    c.apply_thin-tried.new.links c.args.count ≡ entry =
     c.apply_thin-tried.ensures.count_after (not-false _ c.if-not-tried.false) in
     let a = c.args in
     let e = left in
-    record { result_after = c.apply_sharing.ensures.result_after ∙ ap (λ (t : Table). applied t a.op a.f.0 a.g.0) e; fact_2 = c.apply_sharing.ensures.fact }
+    record {
+      result_after = c.apply_sharing.ensures.result_after ∙ ap (λ (t : Table). applied t a.op a.f.0 a.g.0) e;
+      fact_2 =
+          c.apply_sharing.ensures.fact;
+    }

@@ -1,7 +1,5 @@
 -- The member goes to `apply_touching`; where it comes back as it was nothing is written. Assumes nothing.
 use mathlib.Core.Logic.{inl, inr, ⊎_elim}
-use borrow.Author.Rules.{rules}
-use borrow.Author.Tests.{eqb-true, eqb-false}
 use Rattle.table.specs.Indexed.{table_of}
 use Rattle.members.proofs.Written.{one_kept, one_written}
 use Rattle.members.proofs.member_by.Goals as goal
@@ -16,7 +14,8 @@ returns-then-p c =
     record {
       fact_2 = one_kept a.op (table_of a.vars.now a.lows.now a.highs.now a.heads.now a.links.now a.count) a.list.now
           a.words.now a.g.0 a.gained a.i c.apply_touching-p.result
-          (table_of c.apply_touching-p.new.vars c.apply_touching-p.new.lows c.apply_touching-p.new.highs c.apply_touching-p.new.heads c.apply_touching-p.new.links c.apply_touching-p.result.count)
+          (table_of c.apply_touching-p.new.vars c.apply_touching-p.new.lows c.apply_touching-p.new.highs c.apply_touching-p.new.heads
+          c.apply_touching-p.new.links c.apply_touching-p.result.count)
           c.apply_touching-p.ensures.result_after (⊎_elim (λ s. inl s) (λ s. inr s.1) c.then-p.either);
       fact_3 = c.apply_touching-p.ensures.fact_2;
     }
@@ -35,7 +34,8 @@ returns c =
     record {
       fact_2 = one_written a.op (table_of a.vars.now a.lows.now a.highs.now a.heads.now a.links.now a.count) a.list.now
           a.words.now a.g.0 a.gained a.i c.apply_touching-p.result
-          (table_of c.apply_touching-p.new.vars c.apply_touching-p.new.lows c.apply_touching-p.new.highs c.apply_touching-p.new.heads c.apply_touching-p.new.links c.apply_touching-p.result.count)
+          (table_of c.apply_touching-p.new.vars c.apply_touching-p.new.lows c.apply_touching-p.new.highs c.apply_touching-p.new.heads
+          c.apply_touching-p.new.links c.apply_touching-p.result.count)
           c.apply_touching-p.ensures.result_after c.if-p.false c.if-k-f.false;
       fact_3 = c.apply_touching-p.ensures.fact_2;
     }

@@ -1,5 +1,4 @@
 -- `clear_forgetful` leaves the memo as it is, or empty. Assumes nothing.
-use Rattle.std.proofs.Common.{rules}
 use Rattle.memo.proofs.Cells.{empty-follows}
 use Rattle.memo.proofs.clear_forgetful.Goals as goal
 

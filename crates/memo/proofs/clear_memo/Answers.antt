@@ -1,5 +1,5 @@
 -- `clear_memo` leaves no live cell. Assumes nothing.
-use Rattle.std.proofs.Common.{set, arith, length-set, get_or-set_same, rules}
+use Rattle.std.proofs.Common.{set, arith, length-set, get_or-set_same}
 use Rattle.memo.proofs.Cells.{memo-none}
 use Rattle.memo.proofs.clear_memo.Goals as goal
 

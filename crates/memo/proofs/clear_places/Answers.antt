@@ -1,6 +1,5 @@
 -- `clear_places` leaves the places empty. The invariant: those passed are (Cells). Assumes nothing.
-use Rattle.std.proofs.Common.{◌-◌, ◌<◌, ◌≤◌, length, arith, rules}
-use Rattle.memo.specs.Memo.{Cleared}
+use Rattle.std.proofs.Common.{◌-◌, ◌<◌, length, arith, rules}
 use Rattle.memo.proofs.Cells.{cleared-none, cleared_more, cleared-less}
 use Rattle.memo.proofs.clear_places.Goals as goal
 

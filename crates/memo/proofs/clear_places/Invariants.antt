@@ -1,7 +1,6 @@
 -- `clear_places` leaves the places empty. The invariant: those passed are (Cells). Assumes nothing.
-use Rattle.std.proofs.Common.{◌-◌, ◌<◌, ◌≤◌, length, arith, rules}
+use Rattle.std.proofs.Common.{◌-◌, ◌≤◌}
 use Rattle.memo.specs.Memo.{Cleared}
-use Rattle.memo.proofs.Cells.{cleared-none, cleared_more, cleared-less}
 use Rattle.memo.proofs.clear_places.Given as goal
 
 abbrev pub invariant-loop-i : goal.invariant-loop-i

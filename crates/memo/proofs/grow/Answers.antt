@@ -1,5 +1,5 @@
 -- `grow` empties the new cells and moves the old ones (Cells). Assumes nothing.
-use Rattle.std.proofs.Common.{◌∙◌, length-set, rules}
+use Rattle.std.proofs.Common.{◌∙◌, length-set}
 use Rattle.memo.proofs.Cells.{grown-follows}
 use Rattle.memo.proofs.grow.Goals as goal
 

@@ -1,5 +1,5 @@
 -- `make_room` leaves the memo as it is, or with its results in other cells, or empty. Assumes nothing.
-use Rattle.std.proofs.Common.{refl, ⊎_elim, arith, rules}
+use Rattle.std.proofs.Common.{refl, ⊎_elim, arith}
 use Rattle.memo.proofs.Cells.{empty-follows}
 use Rattle.memo.proofs.make_room.Goals as goal
 

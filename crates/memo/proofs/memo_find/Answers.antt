@@ -1,5 +1,5 @@
 -- What a live cell tells is held (Cells). Assumes nothing.
-use Rattle.std.proofs.Common.{sym, subst, arith, rules, ltb-false}
+use Rattle.std.proofs.Common.{sym, subst, arith, ltb-false}
 use Rattle.memo.specs.Memo.{Tells}
 use Rattle.memo.proofs.Cells.{cell-tells}
 use Rattle.memo.proofs.memo_find.Goals as goal

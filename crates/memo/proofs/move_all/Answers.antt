@@ -1,6 +1,5 @@
 -- `move_all` moves one cell after the other. The invariant: all cells have been moved about (Cells). Assumes nothing.
-use Rattle.std.proofs.Common.{◌≤◌, arith, rules}
-use Rattle.memo.specs.Memo.{Moved}
+use Rattle.std.proofs.Common.{arith}
 use Rattle.memo.proofs.Cells.{moved_same, moved_twice}
 use Rattle.memo.proofs.move_all.Goals as goal
 

@@ -1,7 +1,6 @@
 -- `move_all` moves one cell after the other. The invariant: all cells have been moved about (Cells). Assumes nothing.
-use Rattle.std.proofs.Common.{◌≤◌, arith, rules}
+use Rattle.std.proofs.Common.{◌≤◌}
 use Rattle.memo.specs.Memo.{Moved}
-use Rattle.memo.proofs.Cells.{moved_same, moved_twice}
 use Rattle.memo.proofs.move_all.Given as goal
 
 abbrev pub invariant-loop-c : goal.invariant-loop-c

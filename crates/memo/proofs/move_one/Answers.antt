@@ -25,6 +25,7 @@ bounds-memo-home c =
 
 pub returns : goal.returns
 returns c =
-    moved-set c.args.memo.now _ c.args.n (emptied c.args.memo.now c.args.n c.args.c (omega (arith, c.requires)) (omega (arith, c.requires))) _ _
+    moved-set c.args.memo.now _ c.args.n (emptied c.args.memo.now c.args.n c.args.c (omega (arith, c.requires)) (omega (arith, c.requires)))
+    _ _
     (home-room c.args.memo.now c.args.n c.args.c c.home_of-home.result (omega (arith, c.requires)) c.if-n-home.false)
     (inr (record { cell = c.args.c; inside = c.requires.2; has = refl }))

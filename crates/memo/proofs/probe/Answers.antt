@@ -1,5 +1,5 @@
 -- `probe` reads inside the memo and ends: the cells before `to` run out. Assumes nothing.
-use Rattle.std.proofs.Common.{◌-◌, rules}
+use Rattle.std.proofs.Common.{◌-◌}
 use Rattle.memo.proofs.probe.Goals as goal
 
 pub loop-c-init : goal.loop-c-init

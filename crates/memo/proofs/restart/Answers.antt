@@ -1,5 +1,5 @@
 -- `restart` leaves zeros in the live cells (Cells). Assumes nothing.
-use Rattle.std.proofs.Common.{arith, length-set, rules}
+use Rattle.std.proofs.Common.{arith, length-set}
 use Rattle.memo.proofs.Cells.{memo-zeros}
 use Rattle.memo.proofs.restart.Goals as goal
 

@@ -1,5 +1,5 @@
 -- `told_by` compares the whole key, as the definition does. Assumes nothing.
-use Rattle.std.proofs.Common.{arith, rules, eq-eqb, ne_eqb}
+use Rattle.std.proofs.Common.{arith, eq-eqb, ne_eqb}
 use Rattle.memo.specs.Memo.{told_by}
 use Rattle.memo.proofs.told_by.Goals as goal
 

@@ -1,14 +1,12 @@
 -- `negation_from` and `negation_over` give the negation's node or say that there is none, and the memo stays right. Assumes nothing.
-use mathlib.Core.Path.{◌≡◌, sym, ◌∙◌, subst}
-use mathlib.Core.List.{List}
-use Prim.Native.Nat.{ℕ, ◌+◌, ◌*◌, ◌≤◌, ◌<◌}
+use mathlib.Core.Path.{sym, subst}
+use Prim.Native.Nat.{ℕ}
 use native.Mathlib.Omega.{arith}
-use lib.ListN.{length, get_or, set}
-use Rattle.table.specs.declared.Found.{Found}
-use Rattle.table.specs.declared.Found.TheVariants.{At, Nothing}
-use Rattle.table.specs.Indexed.{Table, table_of, Good}
+use lib.ListN.{get_or, set}
+use Rattle.table.specs.declared.Found.TheVariants.{At}
+use Rattle.table.specs.Indexed.{table_of}
 use Rattle.walks.proofs.Here.{Here, here, good-readable}
-use Rattle.negate.specs.Negations.{Negates, NegationMemo, NegationReady}
+use Rattle.negate.specs.Negations.{Negates, NegationMemo}
 use Rattle.negate.proofs.Branches.{negates-zero, negates-one, negates-low, negates-high, negates-lookup}
 use Rattle.negate.proofs.Entries.{negation-known, negation-stored}
 use Rattle.negate.proofs.+negation_from_negation_over.Goals as goal

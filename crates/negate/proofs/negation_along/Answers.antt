@@ -2,7 +2,7 @@
 -- nothing.
 use mathlib.Core.Path.{◌≡◌, sym, ap, ◌∙◌, subst}
 use mathlib.Core.List.{List}
-use Prim.Native.Nat.{ℕ, suc, ◌-◌, ◌≤◌, ◌<◌}
+use Prim.Native.Nat.{ℕ, suc, ◌-◌, ◌<◌}
 use native.Mathlib.Omega.{arith}
 use lib.ListN.{get_or}
 use Rattle.table.specs.declared.Found.TheVariants.{At}
@@ -10,8 +10,8 @@ use Rattle.table.specs.Nodes.{node_of, find}
 use Rattle.table.specs.Indexed.{Table, table_of, nodes_of, Good, found_of}
 use Rattle.negate.specs.declared.NegatedSides.{NegatedSides}
 use Rattle.negate.specs.Negations.{Negates}
-use Rattle.negate.specs.Thin.{OneConstant, PathTo}
-use Rattle.negate.proofs.Paths.{negates-constant, Risen, risen-last, next-inside, next-constant, Looked, risen-absent}
+use Rattle.negate.specs.Thin.{PathTo}
+use Rattle.negate.proofs.Paths.{negates-constant, Risen, risen-last, next-inside, next-constant, risen-absent}
 use Rattle.negate.proofs.Paths.{risen-next}
 use Rattle.negate.proofs.negation_along.Goals as goal
 

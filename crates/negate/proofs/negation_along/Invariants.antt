@@ -1,18 +1,11 @@
 -- `negation_along` looks up one node for each of the path, the last first: the negation of the node below gives that of the next. Assumes
 -- nothing.
-use mathlib.Core.Path.{◌≡◌, sym, ap, ◌∙◌, subst}
-use Prim.Native.Nat.{ℕ, suc, ◌-◌, ◌≤◌, ◌<◌}
-use native.Mathlib.Omega.{arith}
-use lib.ListN.{get_or}
-use borrow.Author.Rules.{rules}
+use Prim.Native.Nat.{ℕ, ◌-◌, ◌≤◌}
 use Rattle.table.specs.declared.Found.TheVariants.{At}
-use Rattle.table.specs.Nodes.{node_of, find}
-use Rattle.table.specs.Indexed.{Table, table_of, nodes_of, Good, found_of}
-use Rattle.negate.specs.declared.NegatedSides.{NegatedSides}
+use Rattle.table.specs.Indexed.{table_of}
 use Rattle.negate.specs.Negations.{Negates}
-use Rattle.negate.specs.Thin.{OneConstant, PathTo}
-use Rattle.negate.proofs.Paths.{negates-constant, Risen, risen-last, next-inside, next-constant, Looked, risen-absent}
-use Rattle.negate.proofs.Paths.{risen-next}
+use Rattle.negate.specs.Thin.{PathTo}
+use Rattle.negate.proofs.Paths.{Risen}
 use Rattle.negate.proofs.negation_along.Given as goal
 
 abbrev pub invariant-loop-left : goal.invariant-loop-left

@@ -1,11 +1,11 @@
--- `thin_path` lists the path from f: at each turn it has come to a node, whose variable is greater than how many were passed, so there are at
--- most 64. Assumes nothing.
+-- `thin_path` lists the path from f: at each turn it has come to a node, whose variable is greater than how many were passed, so there are
+-- at most 64. Assumes nothing.
 use mathlib.Core.Logic.{⊎_elim}
-use mathlib.Core.Path.{◌≡◌, sym, ◌∙◌}
-use Prim.Native.Nat.{ℕ, ◌≤◌, ◌<◌}
+use mathlib.Core.Path.{◌∙◌}
+use Prim.Native.Nat.{◌<◌}
 use native.Mathlib.Omega.{arith}
-use lib.ListN.{length, length-set, get_or}
-use Rattle.negate.proofs.Paths.{GoingDown, going-first, step_room, going_next, further-less}
+use lib.ListN.{length-set}
+use Rattle.negate.proofs.Paths.{going-first, step_room, going_next, further-less}
 use Rattle.negate.proofs.thin_path.Goals as goal
 
 pub loop-k-init : goal.loop-k-init

@@ -1,15 +1,8 @@
--- `thin_path` lists the path from f: at each turn it has come to a node, whose variable is greater than how many were passed, so there are at
--- most 64. Assumes nothing.
-use mathlib.Core.Logic.{⊎_elim}
-use mathlib.Core.Path.{◌≡◌, sym, ◌∙◌}
-use Prim.Native.Nat.{ℕ, ◌≤◌, ◌<◌}
-use native.Mathlib.Omega.{arith}
-use lib.ListN.{length, length-set, get_or}
-use borrow.Author.Rules.{rules}
-use borrow.Author.Tests.{leb-false}
-use Rattle.meaning.proofs.Booleans.{t≢f}
-use Rattle.negate.specs.Thin.{OneConstant}
-use Rattle.negate.proofs.Paths.{GoingDown, going-first, step_room, going_next, further-less}
+-- `thin_path` lists the path from f: at each turn it has come to a node, whose variable is greater than how many were passed, so there are
+-- at most 64. Assumes nothing.
+use mathlib.Core.Path.{◌≡◌}
+use lib.ListN.{length}
+use Rattle.negate.proofs.Paths.{GoingDown}
 use Rattle.negate.proofs.thin_path.Given as goal
 
 abbrev pub invariant-loop-k : goal.invariant-loop-k

@@ -1,11 +1,9 @@
 -- The recursion: each function's outcome is the placing of its result, and it leaves the memo right. A place of the code is one law of
 -- Forced, Results or RightMemo. Assumes nothing.
-use Prim.Native.Nat.{ℕ, ◌-◌, ◌*◌, ◌<◌}
+use Prim.Native.Nat.{ℕ, ◌-◌, ◌<◌}
 use mathlib.Core.Path.{◌≡◌, sym, ap, ◌∙◌, subst}
 use mathlib.Core.List.{List}
 use native.Mathlib.Omega.{arith}
-use borrow.Author.Rules.{rules}
-use Rattle.table.specs.declared.NodeNo.{NodeNo}
 use Rattle.table.specs.Indexed.{Table, table_of, Outcome, outcome_of}
 use Rattle.table.proofs.Outcomes.{place_in}
 use Rattle.memo.specs.Memo.{Tells}
@@ -13,9 +11,10 @@ use Rattle.operate.specs.declared.Operation.{Operation}
 use Rattle.operate.specs.declared.step.Ahead.{Ahead}
 use Rattle.operate.specs.declared.step.Ahead.TheVariants.{Told, Both}
 use Rattle.operate.specs.declared.step.Sides.{Sides}
-use Rattle.operate.specs.Inner.{applied, operation_of, top, Shared, Ready, SidesReady, Given, result_at, Split, AheadSays}
+use Rattle.operate.specs.Inner.{operation_of, top, Shared, Ready, SidesReady, Given, AheadSays}
 use Rattle.operate.proofs.RightMemo.{stores-right}
-use Rattle.operate.proofs.Results.{known-outcome, made-right, low-done, high-ready, high-shared, high-top, high-good, high-done, both-done, memo-joined}
+use Rattle.operate.proofs.Results.{known-outcome, made-right, low-done, high-ready, high-shared, high-top, high-good, high-done, both-done}
+use Rattle.operate.proofs.Results.{memo-joined}
 use Rattle.operate.proofs.OneSide.{SideLeft, outcome-same, SideKept, home-kept, side_same}
 use Rattle.memo.proofs.mixed.Reads as mixed
 use Rattle.memo.proofs.memo_home.Reads as memo_home
@@ -183,7 +182,8 @@ join-returns-clause-fact t c =
     (outcome_of y.new.vars y.new.lows y.new.highs y.new.heads y.new.links y.result) y.ensures n.match-memo_home-2.memo (kept₂ n).right
 
 -- what the steps of one side say
-says : (op : Operation) (shared : ℕ) (T : Table) (f g : ℕ) (memo : List ℕ) (x r : Ahead) → x ≡ r → Ready op memo T f g → Shared op shared T f g
+says : (op : Operation) (shared : ℕ) (T : Table) (f g : ℕ) (memo : List ℕ) (x r : Ahead) → x ≡ r → Ready op memo T f g →
+    Shared op shared T f g
     → (Given op shared T f g → AheadSays op shared T f g x) → AheadSays op shared T f g r
 says op shared T f g memo x r e R S told =
     subst (AheadSays op shared T f g) e (told (record { operands = R.operands; share = S }))
@@ -221,7 +221,8 @@ pub work_out-returns-then-p-clause-result_after : goal.work_out-returns-then-p-c
 work_out-returns-then-p-clause-result_after t c =
     let a = c.args in
     let T : Table = table_of a.vars.now a.lows.now a.highs.now a.heads.now a.links.now a.count in
-    let d = says (operation_of a.kind a.by) a.by.positive T a.f.0 a.g.0 a.memo.now _ (Both c.in-Both.s) c.in-Both.is c.requires.0 c.requires.1
+    let d = says (operation_of a.kind a.by) a.by.positive T a.f.0 a.g.0 a.memo.now _ (Both c.in-Both.s) c.in-Both.is c.requires.0
+    c.requires.1
     (c.forced_down.ensures a.heads.now a.links.now a.count) in
     c.join-p.ensures.result_after ∙ ap (place_in T) (sym d.over)
 
@@ -229,7 +230,8 @@ pub work_out-returns-else-p-clause-result_after : goal.work_out-returns-else-p-c
 work_out-returns-else-p-clause-result_after t c =
     let a = c.args in
     let T : Table = table_of a.vars.now a.lows.now a.highs.now a.heads.now a.links.now a.count in
-    let d = says (operation_of a.kind a.by) a.by.positive T a.f.0 a.g.0 a.memo.now _ (Both c.in-Both.s) c.in-Both.is c.requires.0 c.requires.1
+    let d = says (operation_of a.kind a.by) a.by.positive T a.f.0 a.g.0 a.memo.now _ (Both c.in-Both.s) c.in-Both.is c.requires.0
+    c.requires.1
     (c.forced_down.ensures a.heads.now a.links.now a.count) in
     c.join-p.ensures.result_after ∙ ap (place_in T) (sym d.over)
 
@@ -243,4 +245,5 @@ work_out-returns-else-p-clause-fact t c =
     let d = says (operation_of a.kind a.by) a.by.positive T a.f.0 a.g.0 a.memo.now _ (Both c.in-Both.s) c.in-Both.is R c.requires.1
     (c.forced_down.ensures a.heads.now a.links.now a.count) in
     stores-right (operation_of a.kind a.by) y.new.memo out.table y.ensures.fact _ _ _ _ c.memo_put.ensures
-    (made-right (operation_of a.kind a.by) T a.f.0 a.g.0 R.operands out (y.ensures.result_after ∙ ap (place_in T) (sym d.over)) c.if-p.false)
+    (made-right (operation_of a.kind a.by) T a.f.0 a.g.0 R.operands out (y.ensures.result_after ∙ ap (place_in T) (sym d.over))
+    c.if-p.false)

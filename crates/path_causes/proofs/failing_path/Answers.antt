@@ -21,23 +21,25 @@ use Rattle.paths.specs.Paths.{path_count}
 use Rattle.paths.specs.Walk.{after_from, no_path}
 use Rattle.paths.proofs.Sequence.{count-is}
 use Rattle.path_lines.specs.Turns.{turn_by}
-use Rattle.path_lines.proofs.Turning.{Next, next-first}
-use Rattle.path_causes.proofs.Passing.{Passing, passing-none, goes_on, another, stops-here}
+use Rattle.path_lines.proofs.Turning.{next-first}
+use Rattle.path_causes.proofs.Passing.{passing-none, goes_on, another, stops-here}
 use Rattle.path_causes.proofs.failing_path.Reads as reads
 use Rattle.path_causes.proofs.failing_path.Lts as lts
 use Rattle.path_causes.proofs.failing_path.Tie as tie
 use Rattle.path_causes.proofs.failing_path.Goals as goal
 
-module _ (s : lts.Start tie.the-claims reads.Pre reads.Post goal.the-invariant-loop-root goal.the-decreases-loop-root tie.handed_clauses) where
-  abbrev before : Table
-  before = table_of s.args.vars.now s.args.lows.now s.args.highs.now s.args.heads.now s.args.links.now
-      s.args.count
+module _ (s : lts.Start tie.the-claims reads.Pre reads.Post goal.the-invariant-loop-root goal.the-decreases-loop-root tie.handed_clauses)
+  where
+    abbrev before : Table
+    before = table_of s.args.vars.now s.args.lows.now s.args.highs.now s.args.heads.now s.args.links.now
+        s.args.count
 
-  abbrev good : Good before
-  good = s.requires.fact.0.ready.good
+    abbrev good : Good before
+    good = s.requires.fact.0.ready.good
 
 -- what a turn leaves
-module _ (a : lts.After-path_turn tie.the-claims reads.Pre reads.Post goal.the-invariant-loop-root goal.the-decreases-loop-root tie.handed_clauses) where
+module _ (a : lts.After-path_turn tie.the-claims reads.Pre reads.Post goal.the-invariant-loop-root goal.the-decreases-loop-root
+    tie.handed_clauses) where
   abbrev table₁ : Table
   table₁ = table_of a.path_turn-t.new.vars a.path_turn-t.new.lows a.path_turn-t.new.highs a.path_turn-t.new.heads a.path_turn-t.new.links
       a.path_turn-t.result.count
@@ -52,33 +54,49 @@ module _ (a : lts.After-path_turn tie.the-claims reads.Pre reads.Post goal.the-i
   unmarked-again : a.path_turn-t.new.marks ≡ unmarked (length a.args.vars.now)
   unmarked-again = a.path_turn-t.ensures.marks_after ∙ ap (λ (t : Table). unmarked (length t.vars)) a.loop-root.invariant.0
 
-  not_last : a.loop-root.passed < path_count (diagram_at (nodes_of (before a.before.before.before.before.before.before.before.before.before.before.before.before.before.before.before.before.before.before.before.before.before.before.before)) a.args.root.0)
-  not_last = omega (arith, a.loop-root.invariant.6.inside refl, count-is (diagram_at (nodes_of (before a.before.before.before.before.before.before.before.before.before.before.before.before.before.before.before.before.before.before.before.before.before.before.before)) a.args.root.0))
+  not_last : a.loop-root.passed < path_count (diagram_at
+      (nodes_of (before a.before.before.before.before.before.before.before.before.before.before.before.before.before.before.before.before.before.before.before.before.before.before.before)) a.args.root.0)
+  not_last = omega (
+    arith,
+    a.loop-root.invariant.6.inside refl,
+    count-is
+        (diagram_at (nodes_of
+        (before a.before.before.before.before.before.before.before.before.before.before.before.before.before.before.before.before.before.before.before.before.before.before.before)) a.args.root.0),
+  )
 
 -- what dropping its nodes leaves
-module _ (d : lts.After-drop_to tie.the-claims reads.Pre reads.Post goal.the-invariant-loop-root goal.the-decreases-loop-root tie.handed_clauses) where
+module _ (d : lts.After-drop_to tie.the-claims reads.Pre reads.Post goal.the-invariant-loop-root goal.the-decreases-loop-root
+    tie.handed_clauses) where
   abbrev dropped : Table
   dropped = table_of d.drop_to.new.vars d.drop_to.new.lows d.drop_to.new.highs d.drop_to.new.heads d.drop_to.new.links
       d.args.count
 
-  as_before : dropped ≡ before d.before.before.before.before.before.before.before.before.before.before.before.before.before.before.before.before.before.before.before.before.before.before.before.before.before.before.before.before.before.before.before.before.before.before.before.before.before.before.before.before.before.before.before.before.before.before.before
-  as_before = d.drop_to.ensures ∙ undone (before d.before.before.before.before.before.before.before.before.before.before.before.before.before.before.before.before.before.before.before.before.before.before.before.before.before.before.before.before.before.before.before.before.before.before.before.before.before.before.before.before.before.before.before.before.before.before.before) (good d.before.before.before.before.before.before.before.before.before.before.before.before.before.before.before.before.before.before.before.before.before.before.before.before.before.before.before.before.before.before.before.before.before.before.before.before.before.before.before.before.before.before.before.before.before.before.before) (table₁ d.before.before.before.before.before.before.before.before.before.before.before.before.before.before.before.before.before.before.before.before.before.before.before.before)
+  as_before : dropped ≡ before
+      d.before.before.before.before.before.before.before.before.before.before.before.before.before.before.before.before.before.before.before.before.before.before.before.before.before.before.before.before.before.before.before.before.before.before.before.before.before.before.before.before.before.before.before.before.before.before.before
+  as_before = d.drop_to.ensures ∙ undone (before
+      d.before.before.before.before.before.before.before.before.before.before.before.before.before.before.before.before.before.before.before.before.before.before.before.before.before.before.before.before.before.before.before.before.before.before.before.before.before.before.before.before.before.before.before.before.before.before.before) (good d.before.before.before.before.before.before.before.before.before.before.before.before.before.before.before.before.before.before.before.before.before.before.before.before.before.before.before.before.before.before.before.before.before.before.before.before.before.before.before.before.before.before.before.before.before.before.before) (table₁ d.before.before.before.before.before.before.before.before.before.before.before.before.before.before.before.before.before.before.before.before.before.before.before.before)
       (extended-longer (before d.before.before.before.before.before.before.before.before.before.before.before.before.before.before.before.before.before.before.before.before.before.before.before.before.before.before.before.before.before.before.before.before.before.before.before.before.before.before.before.before.before.before.before.before.before.before.before) (table₁ d.before.before.before.before.before.before.before.before.before.before.before.before.before.before.before.before.before.before.before.before.before.before.before.before) (good d.before.before.before.before.before.before.before.before.before.before.before.before.before.before.before.before.before.before.before.before.before.before.before.before.before.before.before.before.before.before.before.before.before.before.before.before.before.before.before.before.before.before.before.before.before.before.before) (said d.before.before.before.before.before.before.before.before.before.before.before.before.before.before.before.before.before.before.before.before.before.before.before.before).extended)
 
 pub first_path-literals-requires : goal.first_path-literals-requires
-first_path-literals-requires c =
-    (good-readable (before c.before.before.before.before.before.before.before.before.before.before.before.before) (good c.before.before.before.before.before.before.before.before.before.before.before.before), c.requires.fact.0.inside)
+first_path-literals-requires c = (
+  good-readable (before c.before.before.before.before.before.before.before.before.before.before.before.before)
+      (good c.before.before.before.before.before.before.before.before.before.before.before.before),
+  c.requires.fact.0.inside,
+)
 
 pub loop-root-init : goal.loop-root-init
 unfolding nodes_of
 loop-root-init c = (
   refl,
-  passing-none (before c.before.before.before.before.before.before.before.before.before.before.before.before.before) c.args.members.now c.args.root.0 (good c.before.before.before.before.before.before.before.before.before.before.before.before.before),
+  passing-none (before c.before.before.before.before.before.before.before.before.before.before.before.before.before) c.args.members.now
+      c.args.root.0 (good c.before.before.before.before.before.before.before.before.before.before.before.before.before),
   c.requires.fact.1,
   refl,
   refl,
   refl,
-  next-first (before c.before.before.before.before.before.before.before.before.before.before.before.before.before) c.args.members.now c.args.root.0 (good c.before.before.before.before.before.before.before.before.before.before.before.before.before) c.requires.fact.0.inside c.requires.fact.0.not-one
+  next-first (before c.before.before.before.before.before.before.before.before.before.before.before.before.before) c.args.members.now
+      c.args.root.0 (good c.before.before.before.before.before.before.before.before.before.before.before.before.before)
+      c.requires.fact.0.inside c.requires.fact.0.not-one
       c.first_path-literals.result c.first_path-literals.ensures,
 )
 
@@ -94,7 +112,8 @@ path_turn-t-requires c =
       );
       fact_2 = (
         c.requires.fact_2.0,
-        subst (λ (t : Table). Supports (nodes_of t) c.args.members.now c.args.memberwords.now) (sym c.loop-root.invariant.0) c.requires.fact_2.1,
+        subst (λ (t : Table). Supports (nodes_of t) c.args.members.now c.args.memberwords.now) (sym c.loop-root.invariant.0)
+            c.requires.fact_2.1,
         c.loop-root.invariant.5 ∙ c.requires.fact_2.2,
       );
     }
@@ -151,15 +170,21 @@ returns-then-not-t c =
       fact_3 = (
         as_before c.before.before.before.before.before.before.before.before.before.before.before.before.before,
         stops-here (before c.before.before.before.before.before.before.before.before.before.before.before.before.before.before.before.before.before.before.before.before.before.before.before.before.before.before.before.before.before.before.before.before.before.before.before.before.before.before.before.before.before.before.before.before.before.before.before.before.before.before.before.before.before.before.before.before.before.before.before.before) c.args.members.now c.args.root.0 (good c.before.before.before.before.before.before.before.before.before.before.before.before.before.before.before.before.before.before.before.before.before.before.before.before.before.before.before.before.before.before.before.before.before.before.before.before.before.before.before.before.before.before.before.before.before.before.before.before.before.before.before.before.before.before.before.before.before.before.before.before) c.requires.fact.0.inside c.requires.fact.4
-            c.requires.fact.5 c.loop-root.passed c.loop-root.invariant.1 c.loop-root.literals c.loop-root.invariant.6 c.path_turn-t.result (table₁ c.before.before.before.before.before.before.before.before.before.before.before.before.before.before.before.before.before.before.before.before.before.before.before.before.before.before.before.before.before.before.before.before.before.before.before.before.before) (said c.before.before.before.before.before.before.before.before.before.before.before.before.before.before.before.before.before.before.before.before.before.before.before.before.before.before.before.before.before.before.before.before.before.before.before.before.before)
+            c.requires.fact.5 c.loop-root.passed c.loop-root.invariant.1 c.loop-root.literals c.loop-root.invariant.6 c.path_turn-t.result
+            (table₁ c.before.before.before.before.before.before.before.before.before.before.before.before.before.before.before.before.before.before.before.before.before.before.before.before.before.before.before.before.before.before.before.before.before.before.before.before.before) (said c.before.before.before.before.before.before.before.before.before.before.before.before.before.before.before.before.before.before.before.before.before.before.before.before.before.before.before.before.before.before.before.before.before.before.before.before.before)
             (sym (not-not c.path_turn-t.result.shown) ∙ ap not c.if-not-t.true),
       );
-      marks_after = unmarked-again c.before.before.before.before.before.before.before.before.before.before.before.before.before.before.before.before.before.before.before.before.before.before.before.before.before.before.before.before.before.before.before.before.before.before.before.before.before;
+      marks_after = unmarked-again
+          c.before.before.before.before.before.before.before.before.before.before.before.before.before.before.before.before.before.before.before.before.before.before.before.before.before.before.before.before.before.before.before.before.before.before.before.before.before;
     }
 
 pub path_after-next-requires : goal.path_after-next-requires
-path_after-next-requires c =
-    (good-readable (dropped c.before.before.before.before.before.before.before.before.before.before.before.before.before) (subst Good (sym (as_before c.before.before.before.before.before.before.before.before.before.before.before.before.before)) (good c.before.before.before.before.before.before.before.before.before.before.before.before.before.before.before.before.before.before.before.before.before.before.before.before.before.before.before.before.before.before.before.before.before.before.before.before.before.before.before.before.before.before.before.before.before.before.before.before.before.before.before.before.before.before.before.before.before.before.before.before)), c.requires.fact.0.inside)
+path_after-next-requires c = (
+  good-readable (dropped c.before.before.before.before.before.before.before.before.before.before.before.before.before)
+      (subst Good (sym (as_before c.before.before.before.before.before.before.before.before.before.before.before.before.before))
+      (good c.before.before.before.before.before.before.before.before.before.before.before.before.before.before.before.before.before.before.before.before.before.before.before.before.before.before.before.before.before.before.before.before.before.before.before.before.before.before.before.before.before.before.before.before.before.before.before.before.before.before.before.before.before.before.before.before.before.before.before.before)),
+  c.requires.fact.0.inside,
+)
 
 pub overflow_add-passed : goal.overflow_add-passed
 overflow_add-passed c =
@@ -175,13 +200,15 @@ loop-root-preserved c =
     let z = sym (not-not c.path_turn-t.result.shown) ∙ ap not c.if-not-t.false in (
       as_before c.before.before.before.before.before.before.before.before.before.before.before.before.before.before.before,
       goes_on (before c.before.before.before.before.before.before.before.before.before.before.before.before.before.before.before.before.before.before.before.before.before.before.before.before.before.before.before.before.before.before.before.before.before.before.before.before.before.before.before.before.before.before.before.before.before.before.before.before.before.before.before.before.before.before.before.before.before.before.before.before.before.before) c.args.members.now c.args.root.0 (good c.before.before.before.before.before.before.before.before.before.before.before.before.before.before.before.before.before.before.before.before.before.before.before.before.before.before.before.before.before.before.before.before.before.before.before.before.before.before.before.before.before.before.before.before.before.before.before.before.before.before.before.before.before.before.before.before.before.before.before.before.before.before) c.requires.fact.0.inside c.requires.fact.4 c.requires.fact.5
-          c.loop-root.passed c.loop-root.invariant.1 c.loop-root.literals c.loop-root.invariant.6 c.path_turn-t.result (table₁ c.before.before.before.before.before.before.before.before.before.before.before.before.before.before.before.before.before.before.before.before.before.before.before.before.before.before.before.before.before.before.before.before.before.before.before.before.before.before.before) (said c.before.before.before.before.before.before.before.before.before.before.before.before.before.before.before.before.before.before.before.before.before.before.before.before.before.before.before.before.before.before.before.before.before.before.before.before.before.before.before) z,
+          c.loop-root.passed c.loop-root.invariant.1 c.loop-root.literals c.loop-root.invariant.6 c.path_turn-t.result
+          (table₁ c.before.before.before.before.before.before.before.before.before.before.before.before.before.before.before.before.before.before.before.before.before.before.before.before.before.before.before.before.before.before.before.before.before.before.before.before.before.before.before) (said c.before.before.before.before.before.before.before.before.before.before.before.before.before.before.before.before.before.before.before.before.before.before.before.before.before.before.before.before.before.before.before.before.before.before.before.before.before.before.before) z,
       unmarked-again c.before.before.before.before.before.before.before.before.before.before.before.before.before.before.before.before.before.before.before.before.before.before.before.before.before.before.before.before.before.before.before.before.before.before.before.before.before.before.before,
       c.path_turn-t.auto.memo ∙ c.loop-root.invariant.3,
       c.path_turn-t.auto.list ∙ c.loop-root.invariant.4,
       c.path_turn-t.auto.words ∙ c.loop-root.invariant.5,
       another (before c.before.before.before.before.before.before.before.before.before.before.before.before.before.before.before.before.before.before.before.before.before.before.before.before.before.before.before.before.before.before.before.before.before.before.before.before.before.before.before.before.before.before.before.before.before.before.before.before.before.before.before.before.before.before.before.before.before.before.before.before.before.before) c.args.members.now c.args.root.0 (good c.before.before.before.before.before.before.before.before.before.before.before.before.before.before.before.before.before.before.before.before.before.before.before.before.before.before.before.before.before.before.before.before.before.before.before.before.before.before.before.before.before.before.before.before.before.before.before.before.before.before.before.before.before.before.before.before.before.before.before.before.before.before) c.requires.fact.0.inside c.requires.fact.4 c.requires.fact.5
-          c.loop-root.passed c.loop-root.invariant.1 c.loop-root.literals c.loop-root.invariant.6 c.path_turn-t.result (table₁ c.before.before.before.before.before.before.before.before.before.before.before.before.before.before.before.before.before.before.before.before.before.before.before.before.before.before.before.before.before.before.before.before.before.before.before.before.before.before.before) (said c.before.before.before.before.before.before.before.before.before.before.before.before.before.before.before.before.before.before.before.before.before.before.before.before.before.before.before.before.before.before.before.before.before.before.before.before.before.before.before) z c.path_after-next.result
+          c.loop-root.passed c.loop-root.invariant.1 c.loop-root.literals c.loop-root.invariant.6 c.path_turn-t.result
+          (table₁ c.before.before.before.before.before.before.before.before.before.before.before.before.before.before.before.before.before.before.before.before.before.before.before.before.before.before.before.before.before.before.before.before.before.before.before.before.before.before.before) (said c.before.before.before.before.before.before.before.before.before.before.before.before.before.before.before.before.before.before.before.before.before.before.before.before.before.before.before.before.before.before.before.before.before.before.before.before.before.before.before) z c.path_after-next.result
           (c.path_after-next.ensures ∙ ap
           (λ (t : Table). after_from (diagram_at (nodes_of t) c.args.root.0) c.loop-root.literals.positive no_literals no_path)
           (as_before c.before.before.before.before.before.before.before.before.before.before.before.before.before.before.before)),

@@ -5,7 +5,6 @@ use Prim.Native.Nat.{ℕ, ◌≤◌}
 use native.Mathlib.Omega.{arith}
 use lib.ListN.{length, take, replicate, length-replicate}
 use lib.Seq.{length-take-le}
-use borrow.Author.Rules.{rules}
 use Rattle.meaning.specs.Diagram.{Diagram}
 use Rattle.paths.specs.Paths.{path_line}
 use Rattle.table.specs.Nodes.{diagram_at}
@@ -66,8 +65,11 @@ module _ (c : lts.After-live_members tie.the-claims reads.Pre reads.Post tie.han
   scratch-length = length-take-le c.live_members-m.result c.args.scratch.now (omega (arith, few, c.requires.fact.4))
 
 pub live_members-m-requires : goal.live_members-m-requires
-live_members-m-requires c =
-    (omega (arith, c.requires.fact.2, c.requires.fact.3), omega (arith, c.requires.fact.2, c.requires.fact.3, c.requires.fact.5), omega (arith, c.requires.fact.2))
+live_members-m-requires c = (
+  omega (arith, c.requires.fact.2, c.requires.fact.3),
+  omega (arith, c.requires.fact.2, c.requires.fact.3, c.requires.fact.5),
+  omega (arith, c.requires.fact.2),
+)
 
 pub slice_bounds-live-end : goal.slice_bounds-live-end
 slice_bounds-live-end c =
@@ -87,7 +89,8 @@ slice_bounds-path_over-end-2 c =
 
 pub slice_bounds-path_over-end-3 : goal.slice_bounds-path_over-end-3
 slice_bounds-path_over-end-3 c =
-    let a = c.before.before.before.before.before.before.before.before.before.before.before in omega (arith, few c.before.before.before.before.before.before.before.before.before.before.before, a.requires.fact.4)
+    let a = c.before.before.before.before.before.before.before.before.before.before.before in
+    omega (arith, few c.before.before.before.before.before.before.before.before.before.before.before, a.requires.fact.4)
 
 pub slice_bounds-path_over-end-4 : goal.slice_bounds-path_over-end-4
 slice_bounds-path_over-end-4 c =
@@ -105,14 +108,27 @@ pub path_over-requires : goal.path_over-requires
 path_over-requires c =
     let B = before c.before.before.before.before.before.before.before.before.before.before.before.before.before.before.before.before.before.before.before.before.before.before.before.before.before.before.before in record {
       fact = (
-        subst (λ (ms : List ℕ). Negatable B ms c.args.memo.now c.args.g.0) (sym (gathered-is c.before.before.before.before.before.before.before.before.before.before.before.before.before.before)) (ready c.before.before.before.before.before.before.before.before.before.before.before.before.before.before.before.before.before.before.before.before.before.before.before.before.before.before.before),
+        subst (λ (ms : List ℕ). Negatable B ms c.args.memo.now c.args.g.0)
+            (sym (gathered-is c.before.before.before.before.before.before.before.before.before.before.before.before.before.before))
+            (ready c.before.before.before.before.before.before.before.before.before.before.before.before.before.before.before.before.before.before.before.before.before.before.before.before.before.before.before),
         c.requires.fact.1,
-        scratch-length c.before.before.before.before.before.before.before.before.before.before.before.before.before.before ∙ sym (gathered-length c.before.before.before.before.before.before.before.before.before.before.before.before.before.before),
-        omega (arith, gathered-length c.before.before.before.before.before.before.before.before.before.before.before.before.before.before, few c.before.before.before.before.before.before.before.before.before.before.before.before.before.before),
+        scratch-length c.before.before.before.before.before.before.before.before.before.before.before.before.before.before
+            ∙ sym (gathered-length c.before.before.before.before.before.before.before.before.before.before.before.before.before.before),
+        omega (
+          arith,
+          gathered-length c.before.before.before.before.before.before.before.before.before.before.before.before.before.before,
+          few c.before.before.before.before.before.before.before.before.before.before.before.before.before.before,
+        ),
         c.requires.fact.6,
-        subst (λ (ms : List ℕ). Unshown B (path_line 64 (diagrams_of (nodes_of B) ms) (root c.before.before.before.before.before.before.before.before.before.before.before.before.before.before.before.before.before.before.before.before.before.before.before.before.before.before.before))) (sym (gathered-is c.before.before.before.before.before.before.before.before.before.before.before.before.before.before)) c.requires.fact.7,
+        subst (λ (ms : List ℕ). Unshown B (path_line 64 (diagrams_of (nodes_of B) ms)
+            (root c.before.before.before.before.before.before.before.before.before.before.before.before.before.before.before.before.before.before.before.before.before.before.before.before.before.before.before))) (sym (gathered-is c.before.before.before.before.before.before.before.before.before.before.before.before.before.before)) c.requires.fact.7,
       );
-      memberwords_len = (own-length c.before.before.before.before.before.before.before.before.before.before.before.before.before.before ∙ sym (gathered-length c.before.before.before.before.before.before.before.before.before.before.before.before.before.before), own-length c.before.before.before.before.before.before.before.before.before.before.before.before.before.before ∙ sym (gathered-length c.before.before.before.before.before.before.before.before.before.before.before.before.before.before));
+      memberwords_len = (
+        own-length c.before.before.before.before.before.before.before.before.before.before.before.before.before.before
+            ∙ sym (gathered-length c.before.before.before.before.before.before.before.before.before.before.before.before.before.before),
+        own-length c.before.before.before.before.before.before.before.before.before.before.before.before.before.before
+            ∙ sym (gathered-length c.before.before.before.before.before.before.before.before.before.before.before.before.before.before),
+      );
       in_bounds = c.requires.in_bounds;
     }
 
@@ -154,7 +170,8 @@ returns c =
     record {
       fact_2 = (
         c.path_over.ensures.fact_2.0,
-        subst (λ (ms : List ℕ). PathTold (diagrams_of (nodes_of B) ms) (root c.before.before.before.before.before.before.before.before.before.before.before.before.before.before.before.before.before.before.before.before.before.before.before.before.before.before.before.before.before.before.before.before.before.before.before.before.before.before.before.before.before.before.before.before.before.before.before.before) c.path_over.result c.path_over.new.fixed)
+        subst (λ (ms : List ℕ). PathTold (diagrams_of (nodes_of B) ms)
+            (root c.before.before.before.before.before.before.before.before.before.before.before.before.before.before.before.before.before.before.before.before.before.before.before.before.before.before.before.before.before.before.before.before.before.before.before.before.before.before.before.before.before.before.before.before.before.before.before.before) c.path_over.result c.path_over.new.fixed)
             (gathered-is c.before.before.before.before.before.before.before.before.before.before.before.before.before.before.before.before.before.before.before.before.before.before.before.before.before.before.before.before.before.before.before.before.before.before.before) c.path_over.ensures.fact_2.1,
       );
       marks_after = c.path_over.ensures.marks_after;

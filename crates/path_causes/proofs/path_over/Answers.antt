@@ -34,13 +34,16 @@ module _ (s : lts.Start tie.the-claims reads.Pre reads.Post tie.handed_clauses) 
 
 module _ (a : lts.After-failing_path tie.the-claims reads.Pre reads.Post tie.handed_clauses) where
   abbrev table₁ : Table
-  table₁ = table_of a.failing_path-literals.new.vars a.failing_path-literals.new.lows a.failing_path-literals.new.highs a.failing_path-literals.new.heads a.failing_path-literals.new.links
+  table₁ = table_of a.failing_path-literals.new.vars a.failing_path-literals.new.lows a.failing_path-literals.new.highs
+      a.failing_path-literals.new.heads a.failing_path-literals.new.links
       a.args.count
 
-  as_before : table₁ ≡ before a.before.before.before.before.before.before.before.before.before.before.before.before.before.before.before.before.before.before.before.before.before.before.before.before.before.before.before.before.before
+  as_before : table₁ ≡ before
+      a.before.before.before.before.before.before.before.before.before.before.before.before.before.before.before.before.before.before.before.before.before.before.before.before.before.before.before.before.before
   as_before = a.failing_path-literals.ensures.fact_3.0
 
-  failing : FirstFailing (before a.before.before.before.before.before.before.before.before.before.before.before.before.before.before.before.before.before.before.before.before.before.before.before.before.before.before.before.before.before) (ms a.before.before.before.before.before.before.before.before.before.before.before.before.before.before.before.before.before.before.before.before.before.before.before.before.before.before.before.before.before) (root a.before.before.before.before.before.before.before.before.before.before.before.before.before.before.before.before.before.before.before.before.before.before.before.before.before.before.before.before.before) a.failing_path-literals.result
+  failing : FirstFailing (before
+      a.before.before.before.before.before.before.before.before.before.before.before.before.before.before.before.before.before.before.before.before.before.before.before.before.before.before.before.before.before) (ms a.before.before.before.before.before.before.before.before.before.before.before.before.before.before.before.before.before.before.before.before.before.before.before.before.before.before.before.before.before) (root a.before.before.before.before.before.before.before.before.before.before.before.before.before.before.before.before.before.before.before.before.before.before.before.before.before.before.before.before.before) a.failing_path-literals.result
   failing = a.failing_path-literals.ensures.fact_3.1
 
   memo-length : length a.failing_path-literals.new.memo ≡ length a.args.memo.now
@@ -48,13 +51,16 @@ module _ (a : lts.After-failing_path tie.the-claims reads.Pre reads.Post tie.han
 
 module _ (a : lts.After-path_traced tie.the-claims reads.Pre reads.Post tie.handed_clauses) where
   abbrev table₂ : Table
-  table₂ = table_of a.path_traced-t.new.vars a.path_traced-t.new.lows a.path_traced-t.new.highs a.path_traced-t.new.heads a.path_traced-t.new.links
+  table₂ = table_of a.path_traced-t.new.vars a.path_traced-t.new.lows a.path_traced-t.new.highs a.path_traced-t.new.heads
+      a.path_traced-t.new.links
       a.path_traced-t.result.count
 
   more : Extended (before a.before.before.before.before.before.before.before.before.before.before.before.before.before.before.before.before.before.before.before.before.before.before.before.before.before.before.before.before.before.before.before.before.before.before.before.before.before.before.before.before.before.before.before.before.before.before.before.before.before.before.before.before.before.before.before.before.before) table₂
-  more = subst (λ (t : Table). Extended t table₂) (as_before a.before.before.before.before.before.before.before.before.before.before.before.before.before.before.before.before.before.before.before.before.before.before.before.before.before.before.before.before) a.path_traced-t.ensures.0
+  more = subst (λ (t : Table). Extended t table₂)
+      (as_before a.before.before.before.before.before.before.before.before.before.before.before.before.before.before.before.before.before.before.before.before.before.before.before.before.before.before.before.before) a.path_traced-t.ensures.0
 
-  told : Fixed (by_words a.failing_path-literals.result (ms a.before.before.before.before.before.before.before.before.before.before.before.before.before.before.before.before.before.before.before.before.before.before.before.before.before.before.before.before.before.before.before.before.before.before.before.before.before.before.before.before.before.before.before.before.before.before.before.before.before.before.before.before.before.before.before.before.before)) a.path_traced-t.result.rounds
+  told : Fixed (by_words a.failing_path-literals.result
+      (ms a.before.before.before.before.before.before.before.before.before.before.before.before.before.before.before.before.before.before.before.before.before.before.before.before.before.before.before.before.before.before.before.before.before.before.before.before.before.before.before.before.before.before.before.before.before.before.before.before.before.before.before.before.before.before.before.before.before)) a.path_traced-t.result.rounds
       a.path_traced-t.new.fixed
   told = subst (λ (t : Table). Fixed (by_words a.failing_path-literals.result (diagrams_of (nodes_of t) a.args.live.now))
       a.path_traced-t.result.rounds a.path_traced-t.new.fixed)
@@ -62,8 +68,13 @@ module _ (a : lts.After-path_traced tie.the-claims reads.Pre reads.Post tie.hand
 
 pub supports_of-requires : goal.supports_of-requires
 supports_of-requires c =
-    let R = c.requires.fact.0.ready in
-    (good-readable (before c.before.before.before.before.before.before.before.before.before.before.before.before.before.before.before) R.good, R.inside, R.room, c.requires.memberwords_len.0)
+    let R = c.requires.fact.0.ready in (
+      good-readable (before c.before.before.before.before.before.before.before.before.before.before.before.before.before.before.before)
+          R.good,
+      R.inside,
+      R.room,
+      c.requires.memberwords_len.0,
+    )
 
 pub failing_path-literals-requires : goal.failing_path-literals-requires
 unfolding nodes_of
@@ -90,12 +101,14 @@ path_traced-t-requires c =
             (memo-length c.before.before.before.before.before.before.before.before.before.before.before.before.before.before.before.before.before.before.before.before.before.before.before.before.before.before.before.before) c.requires.fact.0.ready,
         c.failing_path-literals.auto.list ∙ c.requires.fact.2,
         c.requires.fact.3,
-        subst (λ (t : Table). Unshown t (turn_by c.failing_path-literals.result (diagrams_of (nodes_of t) c.args.live.now))) (sym (as_before c.before.before.before.before.before.before.before.before.before.before.before.before.before.before.before.before.before.before.before.before.before.before.before.before.before.before.before.before))
+        subst (λ (t : Table). Unshown t (turn_by c.failing_path-literals.result (diagrams_of (nodes_of t) c.args.live.now)))
+            (sym (as_before c.before.before.before.before.before.before.before.before.before.before.before.before.before.before.before.before.before.before.before.before.before.before.before.before.before.before.before.before))
             (failing c.before.before.before.before.before.before.before.before.before.before.before.before.before.before.before.before.before.before.before.before.before.before.before.before.before.before.before.before).fails,
       );
       fact_2 = (
         c.supports_of.auto.words ∙ c.requires.memberwords_len.0,
-        subst (λ (t : Table). Supports (nodes_of t) c.args.live.now c.supports_of.new.words) (sym (as_before c.before.before.before.before.before.before.before.before.before.before.before.before.before.before.before.before.before.before.before.before.before.before.before.before.before.before.before.before)) c.supports_of.ensures.fact,
+        subst (λ (t : Table). Supports (nodes_of t) c.args.live.now c.supports_of.new.words)
+            (sym (as_before c.before.before.before.before.before.before.before.before.before.before.before.before.before.before.before.before.before.before.before.before.before.before.before.before.before.before.before.before)) c.supports_of.ensures.fact,
         c.failing_path-literals.auto.words ∙ c.requires.memberwords_len.1,
       );
       in_bounds = c.requires.in_bounds;
@@ -133,7 +146,8 @@ shape_of-links c =
 
 pub shape_of-memo : goal.shape_of-memo
 shape_of-memo c =
-    c.path_traced-t.auto.memo ∙ memo-length c.before.before.before.before.before.before.before.before.before.before.before.before.before.before.before.before.before.before.before.before.before.before.before.before.before.before.before.before.before.before.before.before.before.before.before.before.before.before.before.before.before.before.before.before.before.before.before.before.before.before.before.before.before.before.before.before.before.before.before.before.before.before.before
+    c.path_traced-t.auto.memo ∙ memo-length
+    c.before.before.before.before.before.before.before.before.before.before.before.before.before.before.before.before.before.before.before.before.before.before.before.before.before.before.before.before.before.before.before.before.before.before.before.before.before.before.before.before.before.before.before.before.before.before.before.before.before.before.before.before.before.before.before.before.before.before.before.before.before.before.before
 
 pub shape_of-marks : goal.shape_of-marks
 shape_of-marks c =
@@ -163,7 +177,8 @@ returns c =
       fact_2 = (
         trace-undone (before c.before.before.before.before.before.before.before.before.before.before.before.before.before.before.before.before.before.before.before.before.before.before.before.before.before.before.before.before.before.before.before.before.before.before.before.before.before.before.before.before.before.before.before.before.before.before.before.before.before.before.before.before.before.before.before.before.before.before.before.before.before.before.before.before.before.before.before.before.before.before.before.before.before.before.before.before.before.before.before.before.before.before.before.before.before.before.before.before.before.before.before.before) (table₂ c.before.before.before.before.before.before.before.before.before.before.before.before.before.before.before.before.before.before.before.before.before.before.before.before.before.before.before.before.before.before.before.before.before.before.before) _ (good c.before.before.before.before.before.before.before.before.before.before.before.before.before.before.before.before.before.before.before.before.before.before.before.before.before.before.before.before.before.before.before.before.before.before.before.before.before.before.before.before.before.before.before.before.before.before.before.before.before.before.before.before.before.before.before.before.before.before.before.before.before.before.before.before.before.before.before.before.before.before.before.before.before.before.before.before.before.before.before.before.before.before.before.before.before.before.before.before.before.before.before.before) (more c.before.before.before.before.before.before.before.before.before.before.before.before.before.before.before.before.before.before.before.before.before.before.before.before.before.before.before.before.before.before.before.before.before.before.before) c.drop_to.ensures,
         told_of (before c.before.before.before.before.before.before.before.before.before.before.before.before.before.before.before.before.before.before.before.before.before.before.before.before.before.before.before.before.before.before.before.before.before.before.before.before.before.before.before.before.before.before.before.before.before.before.before.before.before.before.before.before.before.before.before.before.before.before.before.before.before.before.before.before.before.before.before.before.before.before.before.before.before.before.before.before.before.before.before.before.before.before.before.before.before.before.before.before.before.before.before.before) (ms c.before.before.before.before.before.before.before.before.before.before.before.before.before.before.before.before.before.before.before.before.before.before.before.before.before.before.before.before.before.before.before.before.before.before.before.before.before.before.before.before.before.before.before.before.before.before.before.before.before.before.before.before.before.before.before.before.before.before.before.before.before.before.before.before.before.before.before.before.before.before.before.before.before.before.before.before.before.before.before.before.before.before.before.before.before.before.before.before.before.before.before.before) (root c.before.before.before.before.before.before.before.before.before.before.before.before.before.before.before.before.before.before.before.before.before.before.before.before.before.before.before.before.before.before.before.before.before.before.before.before.before.before.before.before.before.before.before.before.before.before.before.before.before.before.before.before.before.before.before.before.before.before.before.before.before.before.before.before.before.before.before.before.before.before.before.before.before.before.before.before.before.before.before.before.before.before.before.before.before.before.before.before.before.before.before.before) c.failing_path-literals.result c.path_traced-t.result.rounds
-            c.path_traced-t.new.fixed (failing c.before.before.before.before.before.before.before.before.before.before.before.before.before.before.before.before.before.before.before.before.before.before.before.before.before.before.before.before.before.before.before.before.before.before.before.before.before.before.before.before.before.before.before.before.before.before.before.before.before.before.before.before.before.before.before.before.before.before.before.before.before.before.before) (told c.before.before.before.before.before.before.before.before.before.before.before.before.before.before.before.before.before.before.before.before.before.before.before.before.before.before.before.before.before.before.before.before.before.before.before),
+            c.path_traced-t.new.fixed
+            (failing c.before.before.before.before.before.before.before.before.before.before.before.before.before.before.before.before.before.before.before.before.before.before.before.before.before.before.before.before.before.before.before.before.before.before.before.before.before.before.before.before.before.before.before.before.before.before.before.before.before.before.before.before.before.before.before.before.before.before.before.before.before.before.before) (told c.before.before.before.before.before.before.before.before.before.before.before.before.before.before.before.before.before.before.before.before.before.before.before.before.before.before.before.before.before.before.before.before.before.before.before),
       );
       marks_after = c.failing_path-literals.ensures.marks_after;
     }

@@ -22,18 +22,22 @@ module _ (s : lts.Start tie.the-claims reads.Pre reads.Post tie.handed_clauses) 
 -- what the members by the literals leave
 module _ (a : lts.After-by_literals tie.the-claims reads.Pre reads.Post tie.handed_clauses) where
   abbrev table₁ : Table
-  table₁ = table_of a.by_literals-made.new.vars a.by_literals-made.new.lows a.by_literals-made.new.highs a.by_literals-made.new.heads a.by_literals-made.new.links
+  table₁ = table_of a.by_literals-made.new.vars a.by_literals-made.new.lows a.by_literals-made.new.highs a.by_literals-made.new.heads
+      a.by_literals-made.new.links
       a.by_literals-made.result.count
 
   abbrev list₁ : List ℕ
   list₁ = a.by_literals-made.new.list
 
-  by-literals : AllMade (before a.before.before.before.before.before.before.before.before.before.before.before.before.before.before.before.before.before.before.before.before) (unit_results a.args.literals (before a.before.before.before.before.before.before.before.before.before.before.before.before.before.before.before.before.before.before.before.before) a.args.members.now) false table₁ list₁
-  by-literals = made (before a.before.before.before.before.before.before.before.before.before.before.before.before.before.before.before.before.before.before.before.before) a.requires.fact.0.good a.args.members.now a.args.literals a.requires.fact.3
+  by-literals : AllMade (before
+      a.before.before.before.before.before.before.before.before.before.before.before.before.before.before.before.before.before.before.before.before) (unit_results a.args.literals (before a.before.before.before.before.before.before.before.before.before.before.before.before.before.before.before.before.before.before.before.before) a.args.members.now) false table₁ list₁
+  by-literals = made (before
+      a.before.before.before.before.before.before.before.before.before.before.before.before.before.before.before.before.before.before.before.before) a.requires.fact.0.good a.args.members.now a.args.literals a.requires.fact.3
       a.by_literals-made.result.full table₁ list₁ a.by_literals-made.ensures.fact_3
 
   has_room : a.by_literals-made.result.full ≡ false
-  has_room = made-room (before a.before.before.before.before.before.before.before.before.before.before.before.before.before.before.before.before.before.before.before.before) a.requires.fact.0.good a.args.members.now a.args.literals a.requires.fact.3
+  has_room = made-room (before
+      a.before.before.before.before.before.before.before.before.before.before.before.before.before.before.before.before.before.before.before.before) a.requires.fact.0.good a.args.members.now a.args.literals a.requires.fact.3
       a.by_literals-made.result.full table₁ list₁ a.by_literals-made.ensures.fact_3
 
   memo-length : length a.by_literals-made.new.memo ≡ length a.args.memo.now
@@ -50,11 +54,17 @@ trace-requires c =
         record {
           good = M.extended.good;
           inside = M.inside refl;
-          room = omega (arith, M.extended.same_size, c.requires.fact.0.room, memo-length c.before.before.before.before.before.before.before.before.before.before.before.before.before.before.before.before.before.before.before.before.before.before.before.before.before.before);
+          room = omega (
+            arith,
+            M.extended.same_size,
+            c.requires.fact.0.room,
+            memo-length c.before.before.before.before.before.before.before.before.before.before.before.before.before.before.before.before.before.before.before.before.before.before.before.before.before.before,
+          );
         },
         c.by_literals-made.auto.words ∙ c.requires.fact_2.2
             ∙ sym (c.by_literals-made.auto.list ∙ c.requires.fact.1),
-        c.by_literals-made.ensures.supports (has_room c.before.before.before.before.before.before.before.before.before.before.before.before.before.before.before.before.before.before.before.before.before.before.before.before.before.before),
+        c.by_literals-made.ensures.supports (has_room
+            c.before.before.before.before.before.before.before.before.before.before.before.before.before.before.before.before.before.before.before.before.before.before.before.before.before.before),
         omega (arith, c.by_literals-made.auto.list, c.requires.fact.1, c.requires.fact.2),
         calm (before c.before.before.before.before.before.before.before.before.before.before.before.before.before.before.before.before.before.before.before.before.before.before.before.before.before.before.before.before.before.before.before.before.before.before.before.before.before.before.before.before.before.before.before.before.before.before) c.requires.fact.0.good c.args.members.now c.args.literals c.requires.fact.3 c.by_literals-made.result.full
             (table₁ c.before.before.before.before.before.before.before.before.before.before.before.before.before.before.before.before.before.before.before.before.before.before.before.before.before.before) (list₁ c.before.before.before.before.before.before.before.before.before.before.before.before.before.before.before.before.before.before.before.before.before.before.before.before.before.before) c.by_literals-made.ensures.fact_3,

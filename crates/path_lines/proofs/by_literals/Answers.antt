@@ -6,7 +6,6 @@ use native.Mathlib.Omega.{arith}
 use lib.ListN.{length, take}
 use lib.Bits.{bit_or}
 use lib.Seq.{length-take-le}
-use borrow.Author.Rules.{rules}
 use Rattle.table.specs.Nodes.{diagram_at}
 use Rattle.table.specs.Indexed.{Table, table_of, nodes_of}
 use Rattle.operate.specs.declared.Operation.TheVariants.{Literals}
@@ -82,7 +81,8 @@ all_by-requires c =
       fact = subst (λ l. ListReady before l c.args.memo.now × (1 < c.args.count) × Allowed (Literals p n) 1)
           (sym c.copy.ensures)
           (c.requires.fact.0, omega (arith, c.requires.fact.0.good.least), refl);
-      fact_2 = subst (λ l. (length words ≡ length l) × Supports (nodes_of before) l words × Touches (Literals p n) D (bit_or p n) × Support 0 D
+      fact_2 = subst (λ l. (length words ≡ length l) × Supports (nodes_of before) l words × Touches (Literals p n) D (bit_or p n)
+          × Support 0 D
           × AllBut (length l) found (Untouched words (bit_or p n))) (sym c.copy.ensures) (
             copied-length,
             subst (Supports (nodes_of before) c.args.members.now) (sym c.copy_words.ensures)
@@ -122,7 +122,8 @@ returns c =
     let before : Table =
     table_of c.args.vars.now c.args.lows.now c.args.highs.now c.args.heads.now c.args.links.now
     c.args.count in
-    let after = table_of c.all_by.new.vars c.all_by.new.lows c.all_by.new.highs c.all_by.new.heads c.all_by.new.links c.all_by.result.count in record {
+    let after = table_of c.all_by.new.vars c.all_by.new.lows c.all_by.new.highs c.all_by.new.heads c.all_by.new.links c.all_by.result.count
+    in record {
       fact_3 = subst (λ l. AllMade before (unit_results c.args.literals before l) c.all_by.result.full after c.all_by.new.list)
           c.copy.ensures c.all_by.ensures.fact_3;
       supports = c.all_by.ensures.supports;

@@ -1,6 +1,5 @@
 -- `path` finds the members' variables, then judges the turns. Assumes nothing.
 use mathlib.Core.Path.{◌∙◌}
-use borrow.Author.Rules.{rules}
 use Rattle.table.specs.Indexed.{Table, table_of, nodes_of}
 use Rattle.walks.proofs.Here.{good-readable}
 use Rattle.judge.proofs.Ready.{memo-again}

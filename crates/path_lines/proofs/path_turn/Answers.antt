@@ -5,7 +5,6 @@ use mathlib.Core.List.{List}
 use Prim.Native.Nat.{ℕ}
 use native.Mathlib.Omega.{arith}
 use lib.ListN.{length}
-use borrow.Author.Rules.{rules}
 use Rattle.table.specs.Indexed.{Table, table_of}
 use Rattle.conflict.specs.Marks.{unmarked}
 use Rattle.members.specs.Made.{AllMade}
@@ -59,7 +58,8 @@ returns-then-made c =
     c.by_literals-made.new.links c.by_literals-made.result.count in
     let list₁ : List ℕ =
     c.by_literals-made.new.list in
-    let made : (b : Bool) → c.by_literals-made.result.full ≡ b → AllMade before (unit_results c.args.literals before c.args.members.now) b table₁ list₁ =
+    let made : (b : Bool) → c.by_literals-made.result.full ≡ b → AllMade before (unit_results c.args.literals before c.args.members.now) b
+    table₁ list₁ =
     λ b e. subst (λ full. AllMade before (unit_results c.args.literals before c.args.members.now) full table₁
     list₁) e c.by_literals-made.ensures.fact_3 in
     record {
@@ -78,7 +78,8 @@ unit_prop-p-requires c =
     c.by_literals-made.new.links c.by_literals-made.result.count in
     let list₁ : List ℕ =
     c.by_literals-made.new.list in
-    let made : (b : Bool) → c.by_literals-made.result.full ≡ b → AllMade before (unit_results c.args.literals before c.args.members.now) b table₁ list₁ =
+    let made : (b : Bool) → c.by_literals-made.result.full ≡ b → AllMade before (unit_results c.args.literals before c.args.members.now) b
+    table₁ list₁ =
     λ b e. subst (λ full. AllMade before (unit_results c.args.literals before c.args.members.now) full table₁
     list₁) e c.by_literals-made.ensures.fact_3 in
     let memo-length : length c.by_literals-made.new.memo ≡ length c.args.memo.now =
@@ -148,13 +149,15 @@ returns c =
     c.by_literals-made.new.links c.by_literals-made.result.count in
     let list₁ : List ℕ =
     c.by_literals-made.new.list in
-    let made : (b : Bool) → c.by_literals-made.result.full ≡ b → AllMade before (unit_results c.args.literals before c.args.members.now) b table₁ list₁ =
+    let made : (b : Bool) → c.by_literals-made.result.full ≡ b → AllMade before (unit_results c.args.literals before c.args.members.now) b
+    table₁ list₁ =
     λ b e. subst (λ full. AllMade before (unit_results c.args.literals before c.args.members.now) full table₁
     list₁) e c.by_literals-made.ensures.fact_3 in
     record {
       fact_3 = turn-judged before c.requires.fact.0.good c.args.members.now c.args.literals table₁ list₁
           (made false c.if-made.false) c.unit_prop-p.result
-          (table_of c.unit_prop-p.new.vars c.unit_prop-p.new.lows c.unit_prop-p.new.highs c.unit_prop-p.new.heads c.unit_prop-p.new.links c.unit_prop-p.result.count)
+          (table_of c.unit_prop-p.new.vars c.unit_prop-p.new.lows c.unit_prop-p.new.highs c.unit_prop-p.new.heads c.unit_prop-p.new.links
+          c.unit_prop-p.result.count)
           c.unit_prop-p.ensures.fact_3 refl;
       marks_after = c.unit_prop-p.ensures.marks_after ∙ ap unmarked c.by_literals-made.auto.vars;
     }

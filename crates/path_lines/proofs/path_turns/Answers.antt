@@ -6,7 +6,6 @@ use Rattle.meaning.proofs.Booleans.{not-not}
 use Prim.Native.Nat.{ℕ, ◌+◌, ◌-◌, ◌<◌}
 use native.Mathlib.Omega.{arith}
 use lib.ListN.{length}
-use borrow.Author.Rules.{rules}
 use Rattle.meaning.specs.Rules.{Line}
 use Rattle.words.specs.Sets.{no_literals}
 use Rattle.table.specs.Nodes.{diagram_at}
@@ -25,7 +24,8 @@ use Rattle.paths.specs.Walk.{after_from, no_path}
 use Rattle.paths.proofs.Sequence.{count-is}
 use Rattle.paths.specs.Rounds.{most_rounds}
 use Rattle.path_lines.specs.Turns.{turn_by}
-use Rattle.path_lines.proofs.Turning.{Turning, Next, turning-none, next-first, next-after, turns-done, turns-full, turns-end, turns-on, added-fits, passed-fits}
+use Rattle.path_lines.proofs.Turning.{Turning, Next, turning-none, next-first, next-after, turns-done, turns-full, turns-end, turns-on}
+use Rattle.path_lines.proofs.Turning.{added-fits, passed-fits}
 use Rattle.path_lines.proofs.path_turns.Goals as goal
 
 pub first_path-literals-requires : goal.first_path-literals-requires
@@ -62,7 +62,8 @@ path_turn-t-requires c =
     c.args.count in
     record {
       fact = (
-        again-ready before (table_of c.loop-more.vars c.loop-more.lows c.loop-more.highs c.loop-more.heads c.loop-more.links c.args.count) c.args.members.now
+        again-ready before (table_of c.loop-more.vars c.loop-more.lows c.loop-more.highs c.loop-more.heads c.loop-more.links c.args.count)
+            c.args.members.now
             c.args.memo.now c.loop-more.memo c.loop-more.invariant.0 c.loop-more.invariant.3 c.requires.fact.0.ready,
         c.loop-more.invariant.2 ∙ sym (ap (λ (t : Table). unmarked (length t.vars)) c.loop-more.invariant.0),
         c.loop-more.invariant.4 ∙ c.requires.fact.2,
@@ -70,7 +71,8 @@ path_turn-t-requires c =
       );
       fact_2 = (
         c.requires.fact_2.0,
-        subst (λ (t : Table). Supports (nodes_of t) c.args.members.now c.args.memberwords.now) (sym c.loop-more.invariant.0) c.requires.fact_2.1,
+        subst (λ (t : Table). Supports (nodes_of t) c.args.members.now c.args.memberwords.now) (sym c.loop-more.invariant.0)
+            c.requires.fact_2.1,
         c.loop-more.invariant.5 ∙ c.requires.fact_2.2,
       );
     }
@@ -124,7 +126,8 @@ returns-then-t c =
     let table₁ : Table =
     table_of c.path_turn-t.new.vars c.path_turn-t.new.lows c.path_turn-t.new.highs c.path_turn-t.new.heads
     c.path_turn-t.new.links c.path_turn-t.result.count in
-    let said : LineSays before (turn_by c.loop-more.literals (diagrams_of (nodes_of before) c.args.members.now)) 64 c.path_turn-t.result table₁ =
+    let said : LineSays before (turn_by c.loop-more.literals (diagrams_of (nodes_of before) c.args.members.now)) 64 c.path_turn-t.result
+    table₁ =
     subst (λ (t : Table). LineSays t (turn_by c.loop-more.literals (diagrams_of (nodes_of t) c.args.members.now)) 64
     c.path_turn-t.result table₁)
     c.loop-more.invariant.0 c.path_turn-t.ensures.fact_3 in
@@ -152,7 +155,8 @@ drop_to-requires c =
     let table₁ : Table =
     table_of c.path_turn-t.new.vars c.path_turn-t.new.lows c.path_turn-t.new.highs c.path_turn-t.new.heads
     c.path_turn-t.new.links c.path_turn-t.result.count in
-    let said : LineSays before (turn_by c.loop-more.literals (diagrams_of (nodes_of before) c.args.members.now)) 64 c.path_turn-t.result table₁ =
+    let said : LineSays before (turn_by c.loop-more.literals (diagrams_of (nodes_of before) c.args.members.now)) 64 c.path_turn-t.result
+    table₁ =
     subst (λ (t : Table). LineSays t (turn_by c.loop-more.literals (diagrams_of (nodes_of t) c.args.members.now)) 64
     c.path_turn-t.result table₁)
     c.loop-more.invariant.0 c.path_turn-t.ensures.fact_3 in
@@ -168,7 +172,8 @@ overflow_add-rounds c =
     let table₁ : Table =
     table_of c.path_turn-t.new.vars c.path_turn-t.new.lows c.path_turn-t.new.highs c.path_turn-t.new.heads
     c.path_turn-t.new.links c.path_turn-t.result.count in
-    let said : LineSays before (turn_by c.loop-more.literals (diagrams_of (nodes_of before) c.args.members.now)) 64 c.path_turn-t.result table₁ =
+    let said : LineSays before (turn_by c.loop-more.literals (diagrams_of (nodes_of before) c.args.members.now)) 64 c.path_turn-t.result
+    table₁ =
     subst (λ (t : Table). LineSays t (turn_by c.loop-more.literals (diagrams_of (nodes_of t) c.args.members.now)) 64
     c.path_turn-t.result table₁)
     c.loop-more.invariant.0 c.path_turn-t.ensures.fact_3 in
@@ -235,7 +240,8 @@ returns-then-not-t c =
     let table₁ : Table =
     table_of c.path_turn-t.new.vars c.path_turn-t.new.lows c.path_turn-t.new.highs c.path_turn-t.new.heads
     c.path_turn-t.new.links c.path_turn-t.result.count in
-    let said : LineSays before (turn_by c.loop-more.literals (diagrams_of (nodes_of before) c.args.members.now)) 64 c.path_turn-t.result table₁ =
+    let said : LineSays before (turn_by c.loop-more.literals (diagrams_of (nodes_of before) c.args.members.now)) 64 c.path_turn-t.result
+    table₁ =
     subst (λ (t : Table). LineSays t (turn_by c.loop-more.literals (diagrams_of (nodes_of t) c.args.members.now)) 64
     c.path_turn-t.result table₁)
     c.loop-more.invariant.0 c.path_turn-t.ensures.fact_3 in
@@ -257,7 +263,8 @@ returns-then-not-t c =
           (subst (λ (m : ℕ). LineSays before line most_rounds
           (judged_as false false (c.loop-more.rounds + c.path_turn-t.result.rounds) c.args.count m) before)
           (sym c.greater-peak.ensures)
-          (turns-end before c.args.members.now c.args.root.0 good c.requires.fact.0.inside c.loop-more.passed c.loop-more.rounds c.loop-more.peak
+          (turns-end before c.args.members.now c.args.root.0 good c.requires.fact.0.inside c.loop-more.passed c.loop-more.rounds
+          c.loop-more.peak
           c.loop-more.invariant.1 c.loop-more.literals here c.path_turn-t.result table₁ said c.requires.fact.4 c.if-t.false
           (sym (not-not c.path_turn-t.result.shown) ∙ ap not c.if-not-t.true)));
       marks_after = unmarked-again;
@@ -273,7 +280,8 @@ path_after-next-requires c =
     let table₁ : Table =
     table_of c.path_turn-t.new.vars c.path_turn-t.new.lows c.path_turn-t.new.highs c.path_turn-t.new.heads
     c.path_turn-t.new.links c.path_turn-t.result.count in
-    let said : LineSays before (turn_by c.loop-more.literals (diagrams_of (nodes_of before) c.args.members.now)) 64 c.path_turn-t.result table₁ =
+    let said : LineSays before (turn_by c.loop-more.literals (diagrams_of (nodes_of before) c.args.members.now)) 64 c.path_turn-t.result
+    table₁ =
     subst (λ (t : Table). LineSays t (turn_by c.loop-more.literals (diagrams_of (nodes_of t) c.args.members.now)) 64
     c.path_turn-t.result table₁)
     c.loop-more.invariant.0 c.path_turn-t.ensures.fact_3 in
@@ -295,7 +303,8 @@ overflow_add-passed c =
     let table₁ : Table =
     table_of c.path_turn-t.new.vars c.path_turn-t.new.lows c.path_turn-t.new.highs c.path_turn-t.new.heads
     c.path_turn-t.new.links c.path_turn-t.result.count in
-    let said : LineSays before (turn_by c.loop-more.literals (diagrams_of (nodes_of before) c.args.members.now)) 64 c.path_turn-t.result table₁ =
+    let said : LineSays before (turn_by c.loop-more.literals (diagrams_of (nodes_of before) c.args.members.now)) 64 c.path_turn-t.result
+    table₁ =
     subst (λ (t : Table). LineSays t (turn_by c.loop-more.literals (diagrams_of (nodes_of t) c.args.members.now)) 64
     c.path_turn-t.result table₁)
     c.loop-more.invariant.0 c.path_turn-t.ensures.fact_3 in
@@ -331,7 +340,8 @@ loop-more-preserved c =
     let table₁ : Table =
     table_of c.path_turn-t.new.vars c.path_turn-t.new.lows c.path_turn-t.new.highs c.path_turn-t.new.heads
     c.path_turn-t.new.links c.path_turn-t.result.count in
-    let said : LineSays before (turn_by c.loop-more.literals (diagrams_of (nodes_of before) c.args.members.now)) 64 c.path_turn-t.result table₁ =
+    let said : LineSays before (turn_by c.loop-more.literals (diagrams_of (nodes_of before) c.args.members.now)) 64 c.path_turn-t.result
+    table₁ =
     subst (λ (t : Table). LineSays t (turn_by c.loop-more.literals (diagrams_of (nodes_of t) c.args.members.now)) 64
     c.path_turn-t.result table₁)
     c.loop-more.invariant.0 c.path_turn-t.ensures.fact_3 in
@@ -349,7 +359,8 @@ loop-more-preserved c =
       as_before,
       subst (Turning before c.args.members.now c.args.root.0 (c.loop-more.passed + 1) (c.loop-more.rounds + c.path_turn-t.result.rounds))
           (sym c.greater-peak.ensures)
-          (turns-on before c.args.members.now c.args.root.0 good c.requires.fact.0.inside c.loop-more.passed c.loop-more.rounds c.loop-more.peak
+          (turns-on before c.args.members.now c.args.root.0 good c.requires.fact.0.inside c.loop-more.passed c.loop-more.rounds
+          c.loop-more.peak
           c.loop-more.invariant.1 c.loop-more.literals here c.path_turn-t.result table₁ said c.requires.fact.4
           c.if-t.false
           (sym (not-not c.path_turn-t.result.shown) ∙ ap not c.if-not-t.false)),
@@ -410,7 +421,8 @@ returns c =
     let line : Line =
     path_line 64 (diagrams_of (nodes_of before) c.args.members.now) (diagram_at (nodes_of before) c.args.root.0) in
     record {
-      fact_3 = subst (λ (t : Table). LineSays before line most_rounds (judged_as false true c.loop-more.rounds c.args.count c.loop-more.peak) t)
+      fact_3 = subst (λ (t : Table). LineSays before line most_rounds
+          (judged_as false true c.loop-more.rounds c.args.count c.loop-more.peak) t)
           (sym c.loop-more.invariant.0)
           (turns-done before c.args.members.now c.args.root.0 good c.requires.fact.0.inside c.loop-more.passed c.loop-more.rounds
           c.loop-more.peak c.loop-more.invariant.1 ((subst (λ (b : Bool). Next before c.args.members.now c.args.root.0 c.loop-more.passed b

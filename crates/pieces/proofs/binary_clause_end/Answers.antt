@@ -1,5 +1,4 @@
 use Rattle.pieces.proofs.Binary.{ends-added, ends-struck, ends-recorded, ends-wrong, ends-finished}
-use borrow.Author.Rules.{rules}
 use Rattle.pieces.proofs.binary_clause_end.Goals as goal
 
 pub returns-in-Added : goal.returns-in-Added

@@ -1,6 +1,5 @@
 use mathlib.Core.Logic.{inl, inr}
 use Rattle.pieces.proofs.Binary.{binary-byte, binary-four, binary-large, binary-other}
-use borrow.Author.Rules.{rules}
 use Rattle.pieces.proofs.binary_end.Goals as goal
 use Rattle.pieces.proofs.binary_end.Goals.{then-number-eq9+else-at-s, else-number-eq9}
 

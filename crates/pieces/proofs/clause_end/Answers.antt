@@ -1,6 +1,5 @@
 use mathlib.Core.Path.{sym, ◌∙◌}
 use Rattle.pieces.proofs.Ends.{clause-struck, clause-added, clause-none}
-use borrow.Author.Rules.{rules}
 use Rattle.pieces.proofs.clause_end.Goals as goal
 
 -- src/lib.rt:111:13

@@ -1,5 +1,4 @@
 use Rattle.pieces.proofs.Ends.{ends-closed, ends_open, ends-refused}
-use borrow.Author.Rules.{rules}
 use Rattle.pieces.proofs.closed_end.Goals as goal
 
 -- src/lib.rt:90:1

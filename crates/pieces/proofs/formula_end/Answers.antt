@@ -1,5 +1,4 @@
 use borrow.Author.Tests.{le-leb, lt-leb}
-use borrow.Author.Rules.{rules}
 use Rattle.pieces.proofs.formula_end.Goals as goal
 
 -- src/lib.rt:76:9

@@ -1,5 +1,4 @@
 use Rattle.pieces.proofs.Binary.{ends-groups}
-use borrow.Author.Rules.{rules}
 use Rattle.pieces.proofs.groups_end.Goals as goal
 
 pub returns : goal.returns

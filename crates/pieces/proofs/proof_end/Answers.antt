@@ -1,5 +1,4 @@
 use borrow.Author.Tests.{eq-eqb, ne_eqb, le-leb, lt-leb}
-use borrow.Author.Rules.{rules}
 use Rattle.pieces.proofs.proof_end.Goals as goal
 
 -- src/lib.rt:151:17

@@ -2,7 +2,6 @@
 use native.Mathlib.Omega.{arith}
 use Rattle.commands.proofs.Stream.{record-short}
 use Rattle.pieces.proofs.Ends.{record-whole, record-unknown, record-cut}
-use borrow.Author.Rules.{rules}
 use Rattle.pieces.proofs.record_end.Goals as goal
 
 -- src/lib.rt:106:16

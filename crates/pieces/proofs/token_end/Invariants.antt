@@ -1,10 +1,7 @@
-use mathlib.Core.Path.{◌≡◌, refl, sym, ◌∙◌}
+use mathlib.Core.Path.{◌≡◌}
 use Prim.Native.Nat.{◌≤◌, ◌-◌}
-use native.Mathlib.Omega.{arith}
 use lib.ListN.{length}
-use borrow.Author.Rules.{rules}
 use Rattle.dimacs.specs.Text.{token_end}
-use Rattle.pieces.proofs.Ends.{token-over, token-stops, token-goes}
 use Rattle.pieces.proofs.token_end.Given as goal
 
 abbrev pub invariant-loop-i : goal.invariant-loop-i

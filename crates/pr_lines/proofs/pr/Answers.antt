@@ -151,7 +151,8 @@ supports_of-requires-2 c =
     c.by_negation-made.new.list in
     let by-negation : (b : Bool) → c.by_negation-made.result.full ≡ b → ByNegation before members root b table₁ list₁ =
     λ b e. subst (λ full. ByNegation before members root full table₁ list₁) e c.by_negation-made.ensures.fact_3 in
-    let first-ready : c.by_negation-made.result.full ≡ false → (memo : List ℕ) → length memo ≡ length c.args.memo.now → ListReady table₁ list₁ memo =
+    let first-ready : c.by_negation-made.result.full ≡ false → (memo : List ℕ) → length memo ≡ length c.args.memo.now →
+    ListReady table₁ list₁ memo =
     λ e memo len. list-ready before members root table₁ list₁ c.args.memo.now memo (by-negation false e)
     c.requires.fact.0.ready.room len in
     let memo-length : length c.by_negation-made.new.memo ≡ length c.args.memo.now =
@@ -186,7 +187,8 @@ look-looked-requires c =
     c.by_negation-made.new.list in
     let by-negation : (b : Bool) → c.by_negation-made.result.full ≡ b → ByNegation before members root b table₁ list₁ =
     λ b e. subst (λ full. ByNegation before members root full table₁ list₁) e c.by_negation-made.ensures.fact_3 in
-    let first-ready : c.by_negation-made.result.full ≡ false → (memo : List ℕ) → length memo ≡ length c.args.memo.now → ListReady table₁ list₁ memo =
+    let first-ready : c.by_negation-made.result.full ≡ false → (memo : List ℕ) → length memo ≡ length c.args.memo.now →
+    ListReady table₁ list₁ memo =
     λ e memo len. list-ready before members root table₁ list₁ c.args.memo.now memo (by-negation false e)
     c.requires.fact.0.ready.room len in
     let memo-length : length c.by_negation-made.new.memo ≡ length c.args.memo.now =
@@ -224,7 +226,8 @@ turns-requires c =
     c.by_negation-made.new.list in
     let by-negation : (b : Bool) → c.by_negation-made.result.full ≡ b → ByNegation before members root b table₁ list₁ =
     λ b e. subst (λ full. ByNegation before members root full table₁ list₁) e c.by_negation-made.ensures.fact_3 in
-    let first-ready : c.by_negation-made.result.full ≡ false → (memo : List ℕ) → length memo ≡ length c.args.memo.now → ListReady table₁ list₁ memo =
+    let first-ready : c.by_negation-made.result.full ≡ false → (memo : List ℕ) → length memo ≡ length c.args.memo.now →
+    ListReady table₁ list₁ memo =
     λ e memo len. list-ready before members root table₁ list₁ c.args.memo.now memo (by-negation false e)
     c.requires.fact.0.ready.room len in
     let memo-length : length c.by_negation-made.new.memo ≡ length c.args.memo.now =

@@ -7,7 +7,6 @@ use Rattle.meaning.proofs.Booleans.{not-not}
 use Prim.Native.Nat.{ℕ, ◌+◌, ◌-◌, ◌*◌, ◌<◌, max}
 use native.Mathlib.Omega.{arith}
 use lib.ListN.{length, get_or, length-replicate}
-use borrow.Author.Rules.{rules}
 use Rattle.meaning.specs.Rules.{Line, pr_turns}
 use Rattle.meaning.specs.Words.{in_word}
 use Rattle.table.specs.Nodes.{diagram_at}
@@ -65,12 +64,14 @@ turn_known-t-requires c =
         c.requires.fact.5,
       );
       fact_2 = (
-        worded-again before (table_of c.loop-i.vars c.loop-i.lows c.loop-i.highs c.loop-i.heads c.loop-i.links c.args.count) c.args.first.now
+        worded-again before (table_of c.loop-i.vars c.loop-i.lows c.loop-i.highs c.loop-i.heads c.loop-i.links c.args.count)
+            c.args.first.now
             c.args.firstwords.now (get_or c.args.members.now c.loop-i.i 0) (get_or c.args.memberwords.now c.loop-i.i 0) c.loop-i.invariant.0
             (member-worded before c.args.members.now c.args.memberwords.now c.args.first.now c.args.firstwords.now
             c.loop-i.i more c.requires.fact_2.1 c.requires.fact_2.2 c.requires.fact_2.3),
         c.loop-i.invariant.5 ∙ c.requires.fact_2.4,
-        looked-again before (table_of c.loop-i.vars c.loop-i.lows c.loop-i.highs c.loop-i.heads c.loop-i.links c.args.count) c.loop-i.invariant.0
+        looked-again before (table_of c.loop-i.vars c.loop-i.lows c.loop-i.highs c.loop-i.heads c.loop-i.links c.args.count)
+            c.loop-i.invariant.0
             c.args.first.now c.args.looked c.requires.fact_2.5,
       );
     }
@@ -251,7 +252,8 @@ returns-then-not-t c =
     c.loop-i-test.true in
     let unmarked-again : c.turn_known-t.new.marks ≡ unmarked (length c.args.vars.now) =
     c.turn_known-t.ensures.marks_after ∙ ap (λ (t : Table). unmarked (length t.vars)) c.loop-i.invariant.0 in
-    let as_before : table_of c.drop_to.new.vars c.drop_to.new.lows c.drop_to.new.highs c.drop_to.new.heads c.drop_to.new.links c.args.count ≡ before =
+    let as_before : table_of c.drop_to.new.vars c.drop_to.new.lows c.drop_to.new.highs c.drop_to.new.heads c.drop_to.new.links c.args.count
+    ≡ before =
     c.drop_to.ensures ∙ undone before good table₁
     (extended-longer before table₁ good said.extended) in
     record {
@@ -328,7 +330,8 @@ loop-i-smaller c =
     c.loop-i-test.true in
     let judged₁ : List ℕ =
     c.store.new.turns in
-    let passes : Passes c.args.members.now judged₁ (c.loop-i.i + 1) (c.loop-i.rounds + c.turn_known-t.result.rounds) c.pass_stored-next.result.place c.pass_stored-next.result.rounds =
+    let passes : Passes c.args.members.now judged₁ (c.loop-i.i + 1) (c.loop-i.rounds + c.turn_known-t.result.rounds)
+    c.pass_stored-next.result.place c.pass_stored-next.result.rounds =
     c.pass_stored-next.ensures in
     omega (
       arith,
@@ -360,7 +363,8 @@ loop-i-preserved c =
     c.loop-i-test.true in
     let unmarked-again : c.turn_known-t.new.marks ≡ unmarked (length c.args.vars.now) =
     c.turn_known-t.ensures.marks_after ∙ ap (λ (t : Table). unmarked (length t.vars)) c.loop-i.invariant.0 in
-    let as_before : table_of c.drop_to.new.vars c.drop_to.new.lows c.drop_to.new.highs c.drop_to.new.heads c.drop_to.new.links c.args.count ≡ before =
+    let as_before : table_of c.drop_to.new.vars c.drop_to.new.lows c.drop_to.new.highs c.drop_to.new.heads c.drop_to.new.links c.args.count
+    ≡ before =
     c.drop_to.ensures ∙ undone before good table₁
     (extended-longer before table₁ good said.extended) in
     let judged₁ : List ℕ =
@@ -368,7 +372,8 @@ loop-i-preserved c =
     let Equal : ℕ → ℕ → ℕ → Type 0 =
     Turned before c.args.first.now c.args.witness.positive
     c.args.witness.negative in
-    let passes : Passes c.args.members.now judged₁ (c.loop-i.i + 1) (c.loop-i.rounds + c.turn_known-t.result.rounds) c.pass_stored-next.result.place c.pass_stored-next.result.rounds =
+    let passes : Passes c.args.members.now judged₁ (c.loop-i.i + 1) (c.loop-i.rounds + c.turn_known-t.result.rounds)
+    c.pass_stored-next.result.place c.pass_stored-next.result.rounds =
     c.pass_stored-next.ensures in
     let conflicted : c.turn_known-t.result.shown ≡ true =
     sym (not-not c.turn_known-t.result.shown) ∙ ap not c.if-not-t.false in
@@ -383,7 +388,8 @@ loop-i-preserved c =
     c.args.witness.negative good c.loop-i.peak member c.turn_known-t.result table₁
     said c.if-t.false conflicted)
     said.most c.store.ensures in
-    let turning : Turning before c.args.first.now c.args.members.now c.args.witness.positive c.args.witness.negative c.pass_stored-next.result.place c.pass_stored-next.result.rounds (max c.loop-i.peak c.turn_known-t.result.peak) =
+    let turning : Turning before c.args.first.now c.args.members.now c.args.witness.positive c.args.witness.negative
+    c.pass_stored-next.result.place c.pass_stored-next.result.rounds (max c.loop-i.peak c.turn_known-t.result.peak) =
     turning-passed before c.args.first.now c.args.witness.positive
     c.args.witness.negative good c.args.members.now judged₁ (c.loop-i.i + 1)
     (c.loop-i.rounds + c.turn_known-t.result.rounds) c.pass_stored-next.result.place c.pass_stored-next.result.rounds

@@ -198,7 +198,8 @@ returns c =
       fact_3 = turn-judged before c.args.first.now c.args.memo.now c.requires.fact.0 c.args.f.0 c.args.witness.positive
           c.args.witness.negative c.requires.fact.3 (told false c.if-is_one.false) made
           made-is c.if-h.false c.rup_with.result
-          (table_of c.rup_with.new.vars c.rup_with.new.lows c.rup_with.new.highs c.rup_with.new.heads c.rup_with.new.links c.rup_with.result.count)
+          (table_of c.rup_with.new.vars c.rup_with.new.lows c.rup_with.new.highs c.rup_with.new.heads c.rup_with.new.links
+          c.rup_with.result.count)
           c.rup_with.ensures.fact_3;
       marks_after = c.rup_with.ensures.marks_after ∙ ap unmarked c.apply-h.auto.vars;
     }

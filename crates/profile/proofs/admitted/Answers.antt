@@ -1,6 +1,5 @@
 -- `admitted` lets a command in, by its kind. Assumes nothing.
 use mathlib.Core.Path.{sym, ap, ◌∙◌}
-use borrow.Author.Rules.{rules}
 use Rattle.commands.specs.declared.Command.TheVariants.{Added}
 use Rattle.profile.specs.Admitted.{admitted}
 use Rattle.profile.proofs.admitted.Goals as goal

@@ -1,6 +1,5 @@
 -- `record_in` gives the record, or 33 in its place. Assumes nothing.
 use mathlib.Core.Path.{sym, ◌∙◌}
-use borrow.Author.Rules.{rules}
 use Rattle.profile.proofs.record_in.Goals as goal
 
 pub returns-else-is_pr_line : goal.returns-else-is_pr_line

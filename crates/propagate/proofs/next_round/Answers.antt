@@ -2,7 +2,6 @@
 use mathlib.Core.Path.{sym, ◌∙◌, subst}
 use Prim.Native.Nat.{◌-◌}
 use native.Mathlib.Omega.{arith}
-use borrow.Author.Rules.{rules}
 use Rattle.table.specs.Indexed.{table_of, nodes_of}
 use Rattle.walks.proofs.Here.{good-readable}
 use Rattle.table.specs.Lists.{diagrams_of}
@@ -57,7 +56,11 @@ returns-in-Of c =
     let r = c.requires in
     let f = subst (AreFirst 64 (diagrams_of (nodes_of
     (table_of a.vars.now a.lows.now a.highs.now a.heads.now a.links.now a.count)) a.list.now))
-    c.in-Of.is c.first_units.ensures in record { fact_3 = (omega (arith, r.fact.2, c.if-rounds-eq64.false), (sym c.conflicts.ensures.result_value ∙ c.if-conflicts.false), f.0, f.1, f.2); marks_after = c.conflicts.ensures.marks_after }
+    c.in-Of.is c.first_units.ensures in record {
+      fact_3 =
+          (omega (arith, r.fact.2, c.if-rounds-eq64.false), (sym c.conflicts.ensures.result_value ∙ c.if-conflicts.false), f.0, f.1, f.2);
+      marks_after = c.conflicts.ensures.marks_after;
+    }
 
 pub returns-in-Nothing : goal.returns-in-Nothing
 unfolding nodes_of

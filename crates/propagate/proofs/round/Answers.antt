@@ -1,7 +1,6 @@
 -- A round is `all_by` by the literals of the first member's units; what it writes is what differs from the cofactor by U. Assumes nothing.
 use mathlib.Core.Path.{refl}
 use native.Mathlib.Omega.{arith}
-use borrow.Author.Rules.{rules}
 use Rattle.table.specs.Indexed.{table_of}
 use Rattle.supports.proofs.Words.{support-leaf}
 use Rattle.propagate.proofs.Rounds.{round-writes}

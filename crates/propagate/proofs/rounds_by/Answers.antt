@@ -18,8 +18,7 @@ use Rattle.members.specs.Made.{AllMade}
 use Rattle.unit_search.specs.Units.{UnitsAsked}
 use Rattle.propagate.specs.Rounds.{unit_results, NextIs}
 use Rattle.propagate.proofs.Quieting.{asked-next, units-next}
-use Rattle.propagate.proofs.Rounds.{Going, Due, going-ready, going_on, going-first, going-ends, going-full}
-use borrow.Author.Rules.{rules}
+use Rattle.propagate.proofs.Rounds.{Going, going-ready, going_on, going-first, going-ends, going-full}
 use Rattle.propagate.proofs.rounds_by.Goals as goal
 
 pub loop-places-init : goal.loop-places-init
@@ -127,7 +126,8 @@ returns-then-made c =
     c.round-made.new.list in
     let d = c.loop-places.invariant.0 in
     record {
-      fact_3 = going-full entry c.requires.fact.0.good (diagrams_of (nodes_of entry) c.args.list.now) here c.loop-places.list c.loop-places.memo
+      fact_3 = going-full entry c.requires.fact.0.good (diagrams_of (nodes_of entry) c.args.list.now) here c.loop-places.list
+          c.loop-places.memo
           c.loop-places.marks c.loop-places.rounds d.going d.due.0 d.due.1 c.loop-places.u d.due.2
           c.round-made.result.full after list-after c.round-made.ensures.fact c.if-made.true false;
       marks_after = d.going.clear;
@@ -282,20 +282,25 @@ next_round-requires c =
     list-after) c.if-made.false c.round-made.ensures.fact in
     let same-list : length list-after ≡ length c.loop-places.list =
     c.round-made.auto.list in
-    let goes_on : (memo : List ℕ) → length memo ≡ length c.loop-places.memo → (marks : List ℕ) → marks ≡ unmarked (size entry) → Going entry (diagrams_of (nodes_of entry) c.args.list.now) after list-after memo marks (c.loop-places.rounds + 1) =
+    let goes_on : (memo : List ℕ) → length memo ≡ length c.loop-places.memo → (marks : List ℕ) → marks ≡ unmarked (size entry) →
+    Going entry (diagrams_of (nodes_of entry) c.args.list.now) after list-after memo marks (c.loop-places.rounds + 1) =
     let d = c.loop-places.invariant.0 in
-    going_on entry c.requires.fact.0.good (diagrams_of (nodes_of entry) c.args.list.now) here c.loop-places.list c.loop-places.memo c.loop-places.marks
+    going_on entry c.requires.fact.0.good (diagrams_of (nodes_of entry) c.args.list.now) here c.loop-places.list c.loop-places.memo
+    c.loop-places.marks
     c.loop-places.rounds d.going d.due.0 d.due.1 c.loop-places.u d.due.2
     false after list-after made_all refl in
     let asks : Asked (nodes_of after) list-after (map (λ i. get_or list-after i 0) places-found) false =
-    asked-next here c.loop-places.list c.loop-places.memo c.loop-places.words ready c.loop-places.invariant.0.supports c.loop-places.u places-found
+    asked-next here c.loop-places.list c.loop-places.memo c.loop-places.words ready c.loop-places.invariant.0.supports c.loop-places.u
+    places-found
     all_but
     after list-after made_all same-list c.loop-places.invariant.0.due.1 in
     let asks-units : UnitsAsked (diagrams_of (nodes_of after) list-after) places-found c.loop-places.asked =
-    units-next here c.loop-places.list c.loop-places.memo c.loop-places.words ready c.loop-places.invariant.0.supports c.loop-places.u places-found
+    units-next here c.loop-places.list c.loop-places.memo c.loop-places.words ready c.loop-places.invariant.0.supports c.loop-places.u
+    places-found
     all_but
     after list-after made_all same-list c.loop-places.asked
-    (omega (arith, c.loop-places.invariant.0.due.3, length-map c.loop-places.list (diagram_at (nodes_of here)))) c.loop-places.invariant.0.due.4 in
+    (omega (arith, c.loop-places.invariant.0.due.3, length-map c.loop-places.list (diagram_at (nodes_of here))))
+    c.loop-places.invariant.0.due.4 in
     let many : ℕ =
     c.touched_places-many.result in
     let nodes-are : take many c.nodes_at.new.nodes ≡ map (λ i. get_or list-after i 0) places-found =
@@ -356,9 +361,11 @@ returns-in-End c =
     let made_all : AllMade here (unit_results c.loop-places.u here c.loop-places.list) false after list-after =
     subst (λ (b : Bool). AllMade here (unit_results c.loop-places.u here c.loop-places.list) b after
     list-after) c.if-made.false c.round-made.ensures.fact in
-    let goes_on : (memo : List ℕ) → length memo ≡ length c.loop-places.memo → (marks : List ℕ) → marks ≡ unmarked (size entry) → Going entry (diagrams_of (nodes_of entry) c.args.list.now) after list-after memo marks (c.loop-places.rounds + 1) =
+    let goes_on : (memo : List ℕ) → length memo ≡ length c.loop-places.memo → (marks : List ℕ) → marks ≡ unmarked (size entry) →
+    Going entry (diagrams_of (nodes_of entry) c.args.list.now) after list-after memo marks (c.loop-places.rounds + 1) =
     let d = c.loop-places.invariant.0 in
-    going_on entry c.requires.fact.0.good (diagrams_of (nodes_of entry) c.args.list.now) here c.loop-places.list c.loop-places.memo c.loop-places.marks
+    going_on entry c.requires.fact.0.good (diagrams_of (nodes_of entry) c.args.list.now) here c.loop-places.list c.loop-places.memo
+    c.loop-places.marks
     c.loop-places.rounds d.going d.due.0 d.due.1 c.loop-places.u d.due.2
     false after list-after made_all refl in
     let ms = diagrams_of (nodes_of after) list-after in
@@ -391,9 +398,11 @@ loop-places-preserved c =
     list-after) c.if-made.false c.round-made.ensures.fact in
     let same-list : length list-after ≡ length c.loop-places.list =
     c.round-made.auto.list in
-    let goes_on : (memo : List ℕ) → length memo ≡ length c.loop-places.memo → (marks : List ℕ) → marks ≡ unmarked (size entry) → Going entry (diagrams_of (nodes_of entry) c.args.list.now) after list-after memo marks (c.loop-places.rounds + 1) =
+    let goes_on : (memo : List ℕ) → length memo ≡ length c.loop-places.memo → (marks : List ℕ) → marks ≡ unmarked (size entry) →
+    Going entry (diagrams_of (nodes_of entry) c.args.list.now) after list-after memo marks (c.loop-places.rounds + 1) =
     let d = c.loop-places.invariant.0 in
-    going_on entry c.requires.fact.0.good (diagrams_of (nodes_of entry) c.args.list.now) here c.loop-places.list c.loop-places.memo c.loop-places.marks
+    going_on entry c.requires.fact.0.good (diagrams_of (nodes_of entry) c.args.list.now) here c.loop-places.list c.loop-places.memo
+    c.loop-places.marks
     c.loop-places.rounds d.going d.due.0 d.due.1 c.loop-places.u d.due.2
     false after list-after made_all refl in
     let nodes-long : length c.nodes_at.new.nodes ≡ 2048 =

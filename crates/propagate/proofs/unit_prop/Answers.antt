@@ -1,7 +1,6 @@
 -- The first look ends the propagation, or its rounds follow. Assumes nothing.
 use mathlib.Core.Path.{◌∙◌, subst}
 use native.Mathlib.Omega.{arith}
-use borrow.Author.Rules.{rules}
 use Rattle.table.specs.Indexed.{Table, table_of, nodes_of}
 use Rattle.table.specs.Lists.{diagrams_of}
 use Rattle.propagate.specs.Rounds.{NextIs}
@@ -15,7 +14,12 @@ rounds_by-requires c =
     let due = subst (NextIs (diagrams_of (nodes_of table) c.args.list.now) 0) c.in-By.is c.first_round.ensures.fact
     in record {
       fact = (
-        record { good = c.requires.fact.0.good; inside = c.requires.fact.0.inside; room = omega (arith, c.requires.fact.0.room, c.first_round.auto.memo) },
+        record {
+          good = c.requires.fact.0.good;
+          inside = c.requires.fact.0.inside;
+          room =
+              omega (arith, c.requires.fact.0.room, c.first_round.auto.memo);
+        },
         c.first_round.ensures.marks_after,
         c.requires.fact.2,
       );

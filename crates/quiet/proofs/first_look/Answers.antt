@@ -7,7 +7,6 @@ use Prim.Native.Nat.{ℕ, ◌≤◌}
 use native.Mathlib.Omega.{arith}
 use lib.ListN.{length, get_or, take, length-replicate}
 use lib.Seq.{length-take-le}
-use borrow.Author.Rules.{rules}
 use Rattle.meaning.proofs.Booleans.{not-not}
 use Rattle.table.specs.Indexed.{Table, table_of, nodes_of}
 use Rattle.table.specs.Lists.{diagrams_of}

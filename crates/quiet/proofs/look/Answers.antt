@@ -3,7 +3,6 @@ use mathlib.Core.Path.{sym, ◌∙◌, subst}
 use mathlib.Core.List.{List}
 use native.Mathlib.Omega.{arith}
 use lib.ListN.{length-map}
-use borrow.Author.Rules.{rules}
 use Rattle.meaning.specs.Diagram.{Diagram}
 use Rattle.table.specs.Nodes.{Node, diagram_at}
 use Rattle.table.specs.Indexed.{table_of, nodes_of}

@@ -1,5 +1,4 @@
 -- `node_cause`: the two entries' nodes are inside the table, and the child's variable is the cause's. Assumes nothing.
-use borrow.Author.Rules.{rules}
 use Rattle.state.specs.States.{lent_of}
 use Rattle.record_causes.proofs.Told.{told-inside, node-told}
 use Rattle.record_causes.proofs.node_cause.Goals as goal

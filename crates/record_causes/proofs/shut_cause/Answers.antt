@@ -1,7 +1,6 @@
 -- `shut_cause`: the line's node is inside the table and shut under the witness, and the word is the cause's assignment. Assumes nothing.
 use mathlib.Core.Path.{sym, subst}
 use Prim.Native.Nat.{ℕ}
-use borrow.Author.Rules.{rules}
 use Rattle.table.specs.Nodes.{diagram_at}
 use Rattle.walks.specs.Readable.{nodes_in}
 use Rattle.state.specs.States.{lent_of}

@@ -1,7 +1,6 @@
 -- `entry_in` gives the entry number of its definition. Assumes nothing.
 use Prim.Native.Nat.{ℕ}
 use mathlib.Core.Path.{ap}
-use borrow.Author.Rules.{rules}
 use Rattle.records.proofs.entry_in.Goals as goal
 
 pub returns : goal.returns

@@ -1,7 +1,6 @@
 -- `field_in` gives the number of two bytes of its definition: low byte first, they are the field. Assumes nothing.
 use mathlib.Core.Path.{sym, ◌∙◌}
 use Rattle.records.proofs.Reading.{field-two}
-use borrow.Author.Rules.{rules}
 use Rattle.records.proofs.field_in.Goals as goal
 
 pub returns : goal.returns

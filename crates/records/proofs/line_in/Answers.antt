@@ -1,7 +1,6 @@
 -- `line_in` gives the line of its definition, cut short where the body has fewer than two bytes. Assumes nothing.
 use borrow.Author.Tests.{lt-ltb, le-ltb}
 use Rattle.records.specs.Records.{line_in}
-use borrow.Author.Rules.{rules}
 use Rattle.records.proofs.line_in.Goals as goal
 
 pub returns-then-body-lt2 : goal.returns-then-body-lt2

@@ -52,4 +52,5 @@ returns-in-69 c = sym (record-part _ _ 0x45 c.if-proof-at.false c.in-69.is)
 pub returns-in_default : goal.returns-in_default
 returns-in_default c =
     sym (record-part _ _ _ c.if-proof-at.false refl
-    ∙ record-unknown _ _ (λ e. omega arith) (λ e. omega arith) (λ e. omega arith) (λ e. omega arith) (λ e. omega arith) (λ e. omega arith) (λ e. omega arith) (λ e. omega arith) (λ e. omega arith) (λ e. omega arith))
+    ∙ record-unknown _ _ (λ e. omega arith) (λ e. omega arith) (λ e. omega arith) (λ e. omega arith) (λ e. omega arith) (λ e. omega arith)
+    (λ e. omega arith) (λ e. omega arith) (λ e. omega arith) (λ e. omega arith))

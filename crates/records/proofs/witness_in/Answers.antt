@@ -2,7 +2,6 @@
 use borrow.Author.Tests.{lt-ltb, le-ltb}
 use Rattle.records.specs.Records.{witness_in}
 use Rattle.records.proofs.Reading.{field-one}
-use borrow.Author.Rules.{rules}
 use Rattle.records.proofs.witness_in.Goals as goal
 
 pub returns-then-body-lt1 : goal.returns-then-body-lt1

@@ -1,7 +1,6 @@
 -- `word_in` gives the number of eight bytes of its definition: low byte first, two by two. Assumes nothing.
 use native.Mathlib.Omega.{arith}
 use Rattle.records.proofs.Reading.{field-eight}
-use borrow.Author.Rules.{rules}
 use Rattle.records.proofs.word_in.Goals as goal
 
 pub returns : goal.returns

@@ -1,7 +1,6 @@
 -- `redo`: a striking stays; a record that was taken goes on. Assumes nothing.
 use mathlib.Core.Path.{sym, ◌∙◌}
 use lib.ListN.{length}
-use borrow.Author.Rules.{rules}
 use Rattle.state.specs.States.{lent_of}
 use Rattle.remake.proofs.Redoing.{remade-strike, remade-next, remade-stop, remade-spent}
 use Rattle.remake.proofs.redo.Goals as goal

@@ -1,16 +1,15 @@
 -- `remake`: record after record is done again; what is left leads to the same state. Assumes nothing.
-use mathlib.Core.Path.{◌≡◌, refl, sym, ap, ◌∙◌, subst}
+use mathlib.Core.Path.{refl, sym, ap, ◌∙◌, subst}
 use Prim.Native.Nat.{ℕ, ◌-◌}
 use native.Mathlib.Omega.{arith}
 use lib.ListN.{length}
-use borrow.Author.Rules.{rules}
 use Rattle.conflict.specs.Marks.{unmarked}
 use Rattle.commands.proofs.Stream.{record-short}
 use Rattle.verdict.specs.Steps as check
 use Rattle.state.specs.States.{Lent, lent_of, state_of}
 use Rattle.why.specs.Again.{again, Retaken}
 use Rattle.remake.specs.Remade.{Remade}
-use Rattle.remake.proofs.Remaking.{Remaking, remaking-last, remaking-on, remakes-is}
+use Rattle.remake.proofs.Remaking.{remaking-last, remaking-on, remakes-is}
 use Rattle.remake.proofs.remake.Reads as reads
 use Rattle.remake.proofs.remake.Lts as lts
 use Rattle.remake.proofs.remake.Tie as tie
@@ -20,10 +19,13 @@ abbrev entry : lts.Start tie.the-claims reads.Pre reads.Post goal.the-invariant-
 entry s = let a = s.args in lent_of a.vars.now a.lows.now a.highs.now a.heads.now a.links.now a.members.now
     a.scratch.now a.struck.now
 
-abbrev here : lts.At-loop tie.the-claims reads.Pre reads.Post goal.the-invariant-loop-at goal.the-decreases-loop-at tie.handed_clauses → Lent
-here l = lent_of l.loop-at.vars l.loop-at.lows l.loop-at.highs l.loop-at.heads l.loop-at.links l.loop-at.members l.loop-at.scratch l.loop-at.struck
+abbrev here : lts.At-loop tie.the-claims reads.Pre reads.Post goal.the-invariant-loop-at goal.the-decreases-loop-at tie.handed_clauses →
+    Lent
+here l = lent_of l.loop-at.vars l.loop-at.lows l.loop-at.highs l.loop-at.heads l.loop-at.links l.loop-at.members l.loop-at.scratch
+    l.loop-at.struck
 
-abbrev after : lts.After-redo tie.the-claims reads.Pre reads.Post goal.the-invariant-loop-at goal.the-decreases-loop-at tie.handed_clauses → Lent
+abbrev after : lts.After-redo tie.the-claims reads.Pre reads.Post goal.the-invariant-loop-at goal.the-decreases-loop-at tie.handed_clauses →
+    Lent
 after c = lent_of c.redo-state.new.vars c.redo-state.new.lows c.redo-state.new.highs c.redo-state.new.heads c.redo-state.new.links
     c.redo-state.new.members c.redo-state.new.scratch c.redo-state.new.struck
 
@@ -35,7 +37,9 @@ loop-at-init c =
         held = r.0;
         left = subst (λ (x : check.State). Retaken a.variables (length a.vars.now) a.proof.now
             (state_of (entry c.before.before.before.before.before.before.before.before.before.before.before.before) a.first) a.from x a.to)
-            (remakes-is a.variables (length a.vars.now) a.proof.now (state_of (entry c.before.before.before.before.before.before.before.before.before.before.before.before) a.first) a.from a.to r.4)
+            (remakes-is a.variables (length a.vars.now) a.proof.now
+            (state_of (entry c.before.before.before.before.before.before.before.before.before.before.before.before) a.first) a.from a.to
+            r.4)
             r.4.taken;
       },
       r.1,
@@ -71,18 +75,24 @@ overflow_add-next c =
 
 pub redo-state-requires : goal.redo-state-requires
 redo-state-requires c =
-    let a = c.args in
-    (c.loop-at.invariant.0.held, c.loop-at.invariant.1 ∙ ap unmarked (sym c.loop-at.invariant.2), omega (arith, c.requires.2, c.loop-at.invariant.2, c.loop-at.invariant.7))
+    let a = c.args in (
+      c.loop-at.invariant.0.held,
+      c.loop-at.invariant.1 ∙ ap unmarked (sym c.loop-at.invariant.2),
+      omega (arith, c.requires.2, c.loop-at.invariant.2, c.loop-at.invariant.7),
+    )
 
 pub loop-at-smaller : goal.loop-at-smaller
 loop-at-smaller c =
     let a = c.args in
     let g = remaking-on a.variables (length a.vars.now) a.proof.now
-    (again a.to a.variables (length a.vars.now) a.proof.now (state_of (entry c.before.before.before.before.before.before.before.before.before.before.before.before.before.before.before.before.before.before.before.before.before.before.before.before.before.before.before.before.before.before.before.before.before.before.before.before.before.before.before.before.before.before.before.before.before.before.before) a.first) a.from a.to) a.to
+    (again a.to a.variables (length a.vars.now) a.proof.now
+    (state_of (entry c.before.before.before.before.before.before.before.before.before.before.before.before.before.before.before.before.before.before.before.before.before.before.before.before.before.before.before.before.before.before.before.before.before.before.before.before.before.before.before.before.before.before.before.before.before.before.before) a.first) a.from a.to) a.to
     (here c.before.before.before.before.before.before.before.before.before.before.before.before.before.before.before.before.before.before.before.before.before.before.before.before.before.before.before.before.before.before.before.before.before.before.before) c.loop-at.state c.loop-at.at c.loop-at.invariant.0
     c.loop-at-test.true c.record_from-r.result c.record_from-r.ensures _
-    c.record_length.ensures (after c.before.before.before.before.before.before.before.before.before.before.before.before.before.before.before.before.before.before.before.before.before) c.redo-state.result
-    (subst (λ (k : ℕ). Remade a.variables k (here c.before.before.before.before.before.before.before.before.before.before.before.before.before.before.before.before.before.before.before.before.before.before.before.before.before.before.before.before.before.before.before.before.before.before.before)
+    c.record_length.ensures (after
+    c.before.before.before.before.before.before.before.before.before.before.before.before.before.before.before.before.before.before.before.before.before) c.redo-state.result
+    (subst (λ (k : ℕ). Remade a.variables k (here
+    c.before.before.before.before.before.before.before.before.before.before.before.before.before.before.before.before.before.before.before.before.before.before.before.before.before.before.before.before.before.before.before.before.before.before.before)
     (after c.before.before.before.before.before.before.before.before.before.before.before.before.before.before.before.before.before.before.before.before.before) c.loop-at.state c.record_from-r.result c.redo-state.result) c.loop-at.invariant.2 c.redo-state.ensures.fact) in
     omega (
       arith,
@@ -95,11 +105,14 @@ pub loop-at-preserved : goal.loop-at-preserved
 loop-at-preserved c =
     let a = c.args in
     let g = remaking-on a.variables (length a.vars.now) a.proof.now
-    (again a.to a.variables (length a.vars.now) a.proof.now (state_of (entry c.before.before.before.before.before.before.before.before.before.before.before.before.before.before.before.before.before.before.before.before.before.before.before.before.before.before.before.before.before.before.before.before.before.before.before.before.before.before.before.before.before.before.before.before.before.before.before) a.first) a.from a.to) a.to
+    (again a.to a.variables (length a.vars.now) a.proof.now
+    (state_of (entry c.before.before.before.before.before.before.before.before.before.before.before.before.before.before.before.before.before.before.before.before.before.before.before.before.before.before.before.before.before.before.before.before.before.before.before.before.before.before.before.before.before.before.before.before.before.before.before) a.first) a.from a.to) a.to
     (here c.before.before.before.before.before.before.before.before.before.before.before.before.before.before.before.before.before.before.before.before.before.before.before.before.before.before.before.before.before.before.before.before.before.before.before) c.loop-at.state c.loop-at.at c.loop-at.invariant.0
     c.loop-at-test.true c.record_from-r.result c.record_from-r.ensures _
-    c.record_length.ensures (after c.before.before.before.before.before.before.before.before.before.before.before.before.before.before.before.before.before.before.before.before.before) c.redo-state.result
-    (subst (λ (k : ℕ). Remade a.variables k (here c.before.before.before.before.before.before.before.before.before.before.before.before.before.before.before.before.before.before.before.before.before.before.before.before.before.before.before.before.before.before.before.before.before.before.before)
+    c.record_length.ensures (after
+    c.before.before.before.before.before.before.before.before.before.before.before.before.before.before.before.before.before.before.before.before.before) c.redo-state.result
+    (subst (λ (k : ℕ). Remade a.variables k (here
+    c.before.before.before.before.before.before.before.before.before.before.before.before.before.before.before.before.before.before.before.before.before.before.before.before.before.before.before.before.before.before.before.before.before.before.before)
     (after c.before.before.before.before.before.before.before.before.before.before.before.before.before.before.before.before.before.before.before.before.before) c.loop-at.state c.record_from-r.result c.redo-state.result) c.loop-at.invariant.2 c.redo-state.ensures.fact) in (
       g.2,
       c.redo-state.ensures.marks_after ∙ ap unmarked c.loop-at.invariant.2,
@@ -162,7 +175,9 @@ returns c =
     record {
       fact = (
         remaking-last a.variables (length a.vars.now) a.proof.now
-            (again a.to a.variables (length a.vars.now) a.proof.now (state_of (entry c.before.before.before.before.before.before.before.before.before.before.before.before.before.before) a.first) a.from a.to) a.to
+            (again a.to a.variables (length a.vars.now) a.proof.now
+            (state_of (entry c.before.before.before.before.before.before.before.before.before.before.before.before.before.before)
+            a.first) a.from a.to) a.to
             (here c.before.before) c.loop-at.state c.loop-at.at c.loop-at.invariant.0 c.loop-at-test.false,
         c.loop-at.invariant.0.held,
       );

@@ -1,13 +1,11 @@
 -- `read_commands` says what the definition says of the proof: at the loop's head what is to be said is what is left to be said (Going).
 -- Assumes nothing.
-use mathlib.Core.Path.{◌≡◌, refl, ap, ◌∙◌}
+use mathlib.Core.Path.{refl, ap, ◌∙◌}
 use Prim.Native.Nat.{ℕ, ◌-◌, ◌^◌, ◌≤◌, ◌<◌}
 use native.Mathlib.Omega.{arith}
 use lib.ListN.{length}
-use borrow.Author.Rules.{rules}
-use Rattle.verdict.specs.Check.{proof_from}
-use Rattle.state.specs.States.{Lent, lent_of, state_of}
-use Rattle.replay.proofs.Going.{Going, going_start, going-asks, going-reads, going-near, going-stop, going-spent, next-in}
+use Rattle.state.specs.States.{Lent, lent_of}
+use Rattle.replay.proofs.Going.{going_start, going-asks, going-reads, going-near, going-stop, going-spent, next-in}
 use Rattle.replay.proofs.Going.{going_next}
 use Rattle.replay.proofs.read_commands.Reads as reads
 use Rattle.replay.proofs.read_commands.Lts as lts
@@ -15,14 +13,17 @@ use Rattle.replay.proofs.read_commands.Tie as tie
 use Rattle.replay.proofs.read_commands.Goals as goal
 
 -- what a step leaves
-module _ (a : lts.After-command_step tie.the-claims reads.Pre reads.Post goal.the-invariant-loop-at goal.the-decreases-loop-at tie.handed_clauses) where
+module _ (a : lts.After-command_step tie.the-claims reads.Pre reads.Post goal.the-invariant-loop-at goal.the-decreases-loop-at
+    tie.handed_clauses) where
   abbrev lent : Lent
   lent =
-      lent_of a.command_step.new.vars a.command_step.new.lows a.command_step.new.highs a.command_step.new.heads a.command_step.new.links a.command_step.new.members a.command_step.new.scratch
+      lent_of a.command_step.new.vars a.command_step.new.lows a.command_step.new.highs a.command_step.new.heads a.command_step.new.links
+      a.command_step.new.members a.command_step.new.scratch
       a.command_step.new.struck
 
 -- a place in the proof is a machine number
-room : (a : lts.In-loop tie.the-claims reads.Pre reads.Post goal.the-invariant-loop-at goal.the-decreases-loop-at tie.handed_clauses) (k : ℕ) → k ≤ length a.args.proof.now → k < 2 ^ 64
+room : (a : lts.In-loop tie.the-claims reads.Pre reads.Post goal.the-invariant-loop-at goal.the-decreases-loop-at tie.handed_clauses)
+    (k : ℕ) → k ≤ length a.args.proof.now → k < 2 ^ 64
 room a k h = omega (arith, h, a.loop-at-test.true)
 
 pub loop-at-init : goal.loop-at-init
@@ -90,7 +91,8 @@ shape_of-struck-in-Stop c =
 
 pub returns-in-Stop : goal.returns-in-Stop
 returns-in-Stop c =
-    let all = let after-command-step = c.before.before.before.before.before.before.before.before.before.before.before.before.before.before.before.before.before.before.before.before.before.before in
+    let all = let after-command-step =
+    c.before.before.before.before.before.before.before.before.before.before.before.before.before.before.before.before.before.before.before.before.before.before in
     let G = c.loop-at.invariant.0 in
     let X = going-reads _ _ _ _ _ _ _ _ _ _ G _ c.command_at-read.ensures _ c.admitted-let_in.ensures
     (lent after-command-step) _ c.command_step.ensures.stepped in
@@ -138,7 +140,8 @@ shape_of-struck-in-Spent c =
 
 pub returns-in-Spent : goal.returns-in-Spent
 returns-in-Spent c =
-    let all = let after-command-step = c.before.before.before.before.before.before.before.before.before.before.before.before.before.before.before.before.before.before.before.before.before.before in
+    let all = let after-command-step =
+    c.before.before.before.before.before.before.before.before.before.before.before.before.before.before.before.before.before.before.before.before.before.before in
     let G = c.loop-at.invariant.0 in
     let X = going-reads _ _ _ _ _ _ _ _ _ _ G _ c.command_at-read.ensures _ c.admitted-let_in.ensures
     (lent after-command-step) _ c.command_step.ensures.stepped in
@@ -161,7 +164,8 @@ loop-at-preserved c =
     let X = going-reads _ _ _ _ _ _ _ _ _ _ G _ c.command_at-read.ensures _ c.admitted-let_in.ensures
     (lent after-command-step) _ c.command_step.ensures.stepped in
     let is = ap (λ r. r.next) c.command_at-read.ensures in
-    let on = going_next _ _ _ _ _ _ _ _ _ _ G (lent after-command-step) _ X _ c.in-Next.is _ _ _ is after-command-step.command_step.auto.vars
+    let on = going_next _ _ _ _ _ _ _ _ _ _ G (lent after-command-step) _ X _ c.in-Next.is _ _ _ is
+    after-command-step.command_step.auto.vars
     c.command_step.ensures.marks_after after-command-step.command_step.auto.memo in (
       on,
       after-command-step.command_step.auto.vars ∙ c.loop-at.invariant.1,

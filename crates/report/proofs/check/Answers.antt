@@ -1,6 +1,5 @@
 -- The check's arrays are zeros of the sizes that it asks for, so that what it says is the definition's verdict. Assumes nothing.
 use mathlib.Core.Path.{ap, ◌∙◌}
-use borrow.Author.Rules.{rules}
 use Rattle.report.proofs.Saying.{line_of, checked}
 use Rattle.report.proofs.check.Goals as goal
 

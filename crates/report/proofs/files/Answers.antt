@@ -1,6 +1,5 @@
 -- The refusal of two files is the definition's: 25 and 24 of the formula, then of the proof.
 -- Each way out is one case of the definition. Assumes nothing.
-use borrow.Author.Rules.{rules}
 use mathlib.Core.Path.{sym, ◌∙◌}
 use borrow.Author.Tests.{not-true, not-false}
 use Rattle.report.proofs.Saying.{no-formula, long-formula, no_proof, long-proof, both}
@@ -10,7 +9,8 @@ pub returns-then-not-first : goal.returns-then-not-first
 returns-then-not-first c = c.refused.ensures ∙ sym (no-formula _ _ _ _ (not-true _ c.if-not-first.true-raw))
 
 pub returns-then-formula-gt-LONGEST : goal.returns-then-formula-gt-LONGEST
-returns-then-formula-gt-LONGEST c = c.refused-then-formula-gt-LONGEST.ensures ∙ sym (long-formula _ _ _ _ (not-false _ c.if-not-first.false-raw) c.if-formula-gt-LONGEST.true)
+returns-then-formula-gt-LONGEST c = c.refused-then-formula-gt-LONGEST.ensures
+    ∙ sym (long-formula _ _ _ _ (not-false _ c.if-not-first.false-raw) c.if-formula-gt-LONGEST.true)
 
 pub returns-then-not-second : goal.returns-then-not-second
 returns-then-not-second c =

@@ -1,6 +1,5 @@
 -- The line on two files is the definition's: the files' refusal, else the check's verdict. Assumes nothing.
 use mathlib.Core.Path.{sym, ap, ◌∙◌}
-use borrow.Author.Rules.{rules}
 use Rattle.report.specs.declared.Line.{Line}
 use Rattle.report.proofs.Saying.{said-taken, said-untaken}
 use Rattle.report.proofs.line_on.Goals as goal

@@ -2,7 +2,6 @@
 -- By the callees' contracts alone. Assumes nothing.
 use mathlib.Core.Path.{sym, ap, ◌∙◌}
 use lib.ListN.{length}
-use borrow.Author.Rules.{rules}
 use lib.Seq.{length-take-le}
 use lib.ListN.{length}
 use Rattle.report.specs.declared.Line.{Line}

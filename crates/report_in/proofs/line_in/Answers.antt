@@ -1,5 +1,4 @@
 -- The line over a lent table is the definition's, and so is what is left of the table. By the callees' contracts. Assumes nothing.
-use borrow.Author.Rules.{rules}
 use Rattle.report_in.proofs.Telling.{untaken, taken}
 use Rattle.report_in.proofs.line_in.Goals as goal
 

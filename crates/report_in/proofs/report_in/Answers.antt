@@ -2,7 +2,6 @@
 use mathlib.Core.Path.{sym, ap, ◌∙◌}
 use lib.ListN.{length}
 use lib.Seq.{length-take-le}
-use borrow.Author.Rules.{rules}
 use Rattle.report.specs.declared.Line.{Line}
 use Rattle.report.specs.Files.{status_of}
 use Rattle.report.specs.Line.{line_bytes}

@@ -2,7 +2,6 @@
 use mathlib.Core.Path.{sym, ap, ◌∙◌}
 use native.Mathlib.Omega.{arith}
 use lib.ListN.{length}
-use borrow.Author.Rules.{rules}
 use Rattle.conflict.specs.Marks.{unmarked}
 use Rattle.verdict.specs.Check.{zeros}
 use Rattle.session.proofs.Finish.{lent-sized, emptied-opened, run_is}

@@ -2,7 +2,6 @@
 use mathlib.Core.Path.{sym, ap, ◌∙◌, subst}
 use native.Mathlib.Omega.{arith}
 use lib.ListN.{length}
-use borrow.Author.Rules.{rules}
 use Rattle.conflict.specs.Marks.{unmarked}
 use Rattle.verdict.specs.Check.{zeros}
 use Rattle.formula.specs.Formula.{Begins}
@@ -12,12 +11,18 @@ use Rattle.session.proofs.run_clauses.Goals as goal
 
 pub read_clauses-requires : goal.read_clauses-requires
 read_clauses-requires c =
-    record { opened = c.requires.opened; variables_bound = (c.requires.variables_bound.0, c.requires.variables_bound.1, c.requires.variables_bound.2) }
+    record {
+      opened = c.requires.opened;
+      variables_bound =
+          (c.requires.variables_bound.0, c.requires.variables_bound.1, c.requires.variables_bound.2);
+    }
 
 pub run_proof-requires : goal.run_proof-requires
 run_proof-requires c =
     let after-read-clauses = c.before.before.before.before.before.before.before.before.before.before.before.before.before.before.before.before.before.before.before.before.before.before.before.before in (
-      subst (Begins c.args.variables after-read-clauses.read_clauses.new.vars after-read-clauses.read_clauses.new.lows after-read-clauses.read_clauses.new.highs after-read-clauses.read_clauses.new.heads after-read-clauses.read_clauses.new.links after-read-clauses.read_clauses.new.members)
+      subst (Begins c.args.variables after-read-clauses.read_clauses.new.vars after-read-clauses.read_clauses.new.lows
+          after-read-clauses.read_clauses.new.highs after-read-clauses.read_clauses.new.heads after-read-clauses.read_clauses.new.links
+          after-read-clauses.read_clauses.new.members)
           c.in-Begun.is c.read_clauses.ensures.begins,
       c.requires.variables_bound.0,
       omega (arith, c.requires.opened.room, c.read_clauses.auto.members),
@@ -64,7 +69,8 @@ returns-in-Refused c =
     (c.empty.ensures.links_after ∙ ap zeros (c.read_clauses.auto.links ∙ G.links))
     (length a.members.now) (length a.scratch.now) _ _ _ _ _
     (c.empty.ensures.members_after ∙ ap zeros c.read_clauses.auto.members) c.requires.variables_bound.6
-    ∙ unbegun-is a.mode a.variables a.proof.now after-read-clauses.read_clauses.new.vars after-read-clauses.read_clauses.new.lows after-read-clauses.read_clauses.new.highs after-read-clauses.read_clauses.new.heads after-read-clauses.read_clauses.new.links
+    ∙ unbegun-is a.mode a.variables a.proof.now after-read-clauses.read_clauses.new.vars after-read-clauses.read_clauses.new.lows
+    after-read-clauses.read_clauses.new.highs after-read-clauses.read_clauses.new.heads after-read-clauses.read_clauses.new.links
     after-read-clauses.read_clauses.new.members (length a.vars.now) (length a.members.now) (length a.scratch.now) _ _
     (c.read_clauses.ensures.from_value a.mode a.proof.now) _ _ _ c.in-Refused.is
 
@@ -112,7 +118,9 @@ pub returns-in-Begun : goal.returns-in-Begun
 returns-in-Begun c =
     let after-read-clauses = c.before.before.before.before.before.before.before.before.before.before.before.before.before.before.before.before.before.before.before.before.before.before.before.before.before.before.before.before.before.before.before.before.before.before.before.before.before.before.before.before.before.before.before.before.before in
     let a = c.args in
-    c.run_proof.ensures ∙ begun-is a.mode a.variables a.proof.now after-read-clauses.read_clauses.new.vars after-read-clauses.read_clauses.new.lows after-read-clauses.read_clauses.new.highs after-read-clauses.read_clauses.new.heads
-    after-read-clauses.read_clauses.new.links after-read-clauses.read_clauses.new.members (length a.vars.now) (length a.members.now) (length a.scratch.now) _ _
+    c.run_proof.ensures ∙ begun-is a.mode a.variables a.proof.now after-read-clauses.read_clauses.new.vars
+    after-read-clauses.read_clauses.new.lows after-read-clauses.read_clauses.new.highs after-read-clauses.read_clauses.new.heads
+    after-read-clauses.read_clauses.new.links after-read-clauses.read_clauses.new.members (length a.vars.now) (length a.members.now)
+    (length a.scratch.now) _ _
     (c.read_clauses.ensures.from_value a.mode a.proof.now) _ _ c.in-Begun.is
     c.read_clauses.auto.vars c.read_clauses.auto.members

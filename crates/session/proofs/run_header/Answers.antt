@@ -1,7 +1,6 @@
 -- `run_header` leaves the outcome of the formula and the proof, by the header. Assumes nothing.
 use mathlib.Core.Path.{sym, ap, ◌∙◌}
 use lib.ListN.{length}
-use borrow.Author.Rules.{rules}
 use Rattle.verdict.specs.Check.{outcome}
 use Rattle.session.proofs.Finish.{unopened-is, header-bounds, verdict-proper, verdict-improper}
 use Rattle.session.proofs.run_header.Goals as goal
@@ -9,7 +8,11 @@ use Rattle.session.proofs.run_header.Goals as goal
 pub run_clauses-requires : goal.run_clauses-requires
 run_clauses-requires c =
     let b = header-bounds _ _ _ _ (sym c.read_header.ensures ∙ c.in-Proper.is) in
-    record { opened = c.requires.opened; variables_bound = (b.0, b.1, b.2, c.requires.in_bounds.0, c.requires.in_bounds.1, c.requires.in_bounds.2, c.requires.in_bounds.3) }
+    record {
+      opened = c.requires.opened;
+      variables_bound =
+          (b.0, b.1, b.2, c.requires.in_bounds.0, c.requires.in_bounds.1, c.requires.in_bounds.2, c.requires.in_bounds.3);
+    }
 
 pub returns-in-Improper : goal.returns-in-Improper
 returns-in-Improper c =

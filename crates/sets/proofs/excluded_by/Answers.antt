@@ -1,6 +1,5 @@
 -- `excluded_by` counts what the at-least diagram excludes. Assumes nothing.
 use Rattle.sets.proofs.Counting.{not-counted, counted}
-use borrow.Author.Rules.{rules}
 use Rattle.sets.proofs.excluded_by.Goals as goal
 
 pub returns-then-m-gt32 : goal.returns-then-m-gt32

@@ -1,10 +1,8 @@
 -- `evaluate` says what its definition says, by the refusals in their order. Assumes nothing.
 use mathlib.Core.Path.{sym, ap, ◌∙◌}
 use mathlib.Core.Bool.{Bool}
-use borrow.Author.Tests.{not-true, not-false}
 use Rattle.table.specs.Columns.{columns_made}
 use Rattle.single.proofs.Refusals.{evaluated-7, evaluated-26, evaluated-13, evaluated-0, readable}
-use borrow.Author.Rules.{rules}
 use Rattle.single.proofs.evaluate.Goals as goal
 
 pub returns-then-not-size_fits : goal.returns-then-not-size_fits

@@ -1,7 +1,6 @@
 -- `cablesalak_small`: the call's contract, and what number 0 means. The idea: `small-call-refuted` about the definition that the contract
 -- cites. Assumes nothing.
 use mathlib.Core.Path.{sym, ap, ◌∙◌}
-use borrow.Author.Rules.{rules}
 use Rattle.small_verdict.specs.Small.{SmallOutcome}
 use Rattle.small_verdict.proofs.Agreement.{small-call-refuted}
 use Rattle.small_export.proofs.cablesalak_small.Goals as goal

@@ -1,5 +1,4 @@
 -- `end_step`: each way out is one law of Stops. Assumes nothing.
-use borrow.Author.Rules.{rules}
 use Rattle.state.specs.States.{state_of}
 use Rattle.entries.proofs.Entries.{waits-is}
 use Rattle.entries.proofs.Stops.{stopped}

@@ -1,6 +1,5 @@
 -- `record_step`: the step of the record's kind. Assumes nothing.
 use mathlib.Core.Path.{refl}
-use borrow.Author.Rules.{rules}
 use native.Mathlib.Omega.{arith}
 use Rattle.state.specs.States.{Lent, lent_of}
 use Rattle.steps.proofs.Lines.{held-64}
@@ -22,7 +21,12 @@ pub witness_step-requires : goal.witness_step-requires
 witness_step-requires c = c.requires.0.entries.narrow
 
 pub line_step-requires : goal.line_step-requires
-line_step-requires c = (held-64 c.args.variables (lent c.before.before.before.before.before.before.before.before.before.before.before.before.before.before.before.before.before.before.before.before) c.args.st c.requires.0, c.requires.1, c.requires.2)
+line_step-requires c = (
+  held-64 c.args.variables
+      (lent c.before.before.before.before.before.before.before.before.before.before.before.before.before.before.before.before.before.before.before.before) c.args.st c.requires.0,
+  c.requires.1,
+  c.requires.2,
+)
 
 pub strike_step-requires : goal.strike_step-requires
 strike_step-requires c = omega
@@ -59,7 +63,8 @@ returns-in-NodeEntry c = record {
 pub returns-in-Witness : goal.returns-in-Witness
 returns-in-Witness c = record {
   fact = as-witness _ _ _ _ _ _ _ _ _ _ c.in-Witness.is
-      (c.witness_step.ensures (lent c.before.before.before.before.before.before.before.before.before.before.before.before.before) c.requires.0);
+      (c.witness_step.ensures (lent c.before.before.before.before.before.before.before.before.before.before.before.before.before)
+      c.requires.0);
   marks_after = c.requires.1;
 }
 
@@ -142,7 +147,8 @@ returns-in-SetEntry c =
 pub returns-in-End : goal.returns-in-End
 returns-in-End c = record {
   fact = as-end _ _ _ _ _ _ _ _ c.in-End.is
-      (c.end_step.ensures c.args.variables (lent c.before.before.before.before.before.before.before.before.before.before.before.before.before));
+      (c.end_step.ensures c.args.variables (lent
+      c.before.before.before.before.before.before.before.before.before.before.before.before.before));
   marks_after = c.requires.1;
 }
 

@@ -1,15 +1,15 @@
 -- `word_from` gives a word that has all variables of the node, or those that it forces, and its memo stays right. Assumes nothing.
-use mathlib.Core.Path.{◌≡◌, sym, ◌∙◌, subst}
+use mathlib.Core.Path.{◌≡◌, sym, subst}
 use mathlib.Core.Bool.{Bool}
 use mathlib.Core.List.{List}
 use Prim.Native.Nat.{ℕ, ◌≤◌, ◌<◌}
 use native.Mathlib.Omega.{arith}
-use lib.ListN.{length, get_or}
+use lib.ListN.{get_or}
 use lib.Bits.{bit_or}
-use Rattle.table.specs.Nodes.{Node, diagram_at}
-use Rattle.walks.specs.Readable.{Readable, Roomy, nodes_in}
+use Rattle.table.specs.Nodes.{diagram_at}
+use Rattle.walks.specs.Readable.{Readable, nodes_in}
 use Rattle.walks.proofs.Here.{Here, here, length-in}
-use Rattle.supports.specs.Supports.{WordOf, WordMemo, with_node}
+use Rattle.supports.specs.Supports.{WordOf, with_node}
 use Rattle.supports.proofs.Words.{memo-known, memo-stored}
 use Rattle.supports.proofs.ForcedWords.{word-leaf, word-node}
 use Rattle.supports.proofs.+word_from.Goals as goal
@@ -62,8 +62,10 @@ with_node-word-requires t c =
     here _ _ _ _ c.requires.readable.0 _ c.if-f-lt2.false c.requires.readable.1 in (H.least, H.most)
 
 -- the word of both sides' words
-combined : (all : Bool) (vs ls hs : List ℕ) (count : ℕ) (R : Readable vs ls hs count) (k : ℕ) (two : 2 ≤ k) (inside : k < count) (a b word : ℕ)
-    → WordOf all a (diagram_at (nodes_in vs ls hs count) (get_or ls k 0)) → WordOf all b (diagram_at (nodes_in vs ls hs count) (get_or hs k 0))
+combined : (all : Bool) (vs ls hs : List ℕ) (count : ℕ) (R : Readable vs ls hs count) (k : ℕ) (two : 2 ≤ k) (inside : k < count)
+    (a b word : ℕ)
+    → WordOf all a (diagram_at (nodes_in vs ls hs count) (get_or ls k 0)) →
+    WordOf all b (diagram_at (nodes_in vs ls hs count) (get_or hs k 0))
     → word ≡ with_node all (bit_or a b) (get_or vs k 0) (get_or ls k 0) (get_or hs k 0)
     → WordOf all word (diagram_at (nodes_in vs ls hs count) k)
 combined all vs ls hs count R k two inside a b word u x e =

@@ -1,13 +1,13 @@
 -- `all_supports` fills the memo with the words of all nodes. Assumes nothing.
-use mathlib.Core.Path.{◌≡◌, refl, sym, ◌∙◌, subst}
-use Prim.Native.Nat.{ℕ, ◌-◌, ◌≤◌, ◌<◌}
+use mathlib.Core.Path.{refl, sym, ◌∙◌, subst}
+use Prim.Native.Nat.{ℕ, ◌-◌}
 use native.Mathlib.Omega.{arith}
-use lib.ListN.{length, length-set}
+use lib.ListN.{length-set}
 use Rattle.table.specs.Nodes.{diagram_at}
 use Rattle.walks.specs.Readable.{nodes_in}
 use Rattle.walks.proofs.Here.{Here, here, length-in}
 use Rattle.supports.specs.Supports.{Support}
-use Rattle.supports.proofs.Words.{support-node, Known, known-leaves, known_next, known-all}
+use Rattle.supports.proofs.Words.{support-node, known-leaves, known_next, known-all}
 use Rattle.supports.proofs.all_supports.Goals as goal
 
 -- src/lib.rt:96:5

@@ -1,14 +1,13 @@
 -- The list's words are filled in one by one, while the memo stays right, as it is begun, cleared or filled. Assumes nothing.
-use mathlib.Core.Path.{◌≡◌, refl, sym, ◌∙◌, subst}
+use mathlib.Core.Path.{refl, sym, ◌∙◌, subst}
 use mathlib.Core.List.{List}
 use Prim.Native.Nat.{ℕ, ◌-◌, ◌<◌}
 use native.Mathlib.Omega.{arith}
 use lib.ListN.{length, get_or, length-set}
-use Rattle.table.specs.Nodes.{Node}
 use Rattle.walks.specs.Readable.{nodes_in}
 use Rattle.walks.proofs.Here.{length-in}
 use Rattle.supports.specs.Supports.{Support, SupportMemo}
-use Rattle.supports.proofs.Words.{memo-cleared, memo-known, Filled, filled_none, filled_next, filled-all}
+use Rattle.supports.proofs.Words.{memo-cleared, memo-known, filled_none, filled_next, filled-all}
 use Rattle.supports.proofs.supports_of.Goals as goal
 use Rattle.supports.proofs.supports_of.Goals.{then-list-count, else-list-count}
 

@@ -1,7 +1,6 @@
 -- `append` leaves the table with one node more. Assumes nothing.
 use Rattle.table.specs.Indexed.{table_of}
 use Rattle.table.proofs.IndexStores.{appended}
-use Rattle.std.proofs.Common.{rules}
 use Rattle.table.proofs.append.Goals as goal
 
 pub returns : goal.returns

@@ -1,5 +1,5 @@
 -- `bucket_of` is the chain of a node: sums and products modulo 2^32 are the sum modulo 2^32. Assumes nothing.
-use Rattle.std.proofs.Common.{◌≡◌, ℕ, ◌+◌, ◌*◌, ◌%◌, ◌^◌, ◌<◌, sym, refl, ap, ◌∙◌, subst, mod-lt, arith, rules}
+use Rattle.std.proofs.Common.{◌≡◌, ℕ, ◌+◌, ◌*◌, ◌%◌, ◌^◌, ◌<◌, sym, refl, ap, ◌∙◌, subst, mod-lt, arith}
 use native.Mathlib.Nat.{add-mod-mod, mod-add-mod}
 use Rattle.table.specs.Index.{bucket}
 use Rattle.table.proofs.bucket_of.Reads as reads
@@ -36,10 +36,12 @@ module _ (c : lts.After-wrapping_add_u322 tie.the-claims reads.Pre reads.Post ti
       )
 
 pub returns-then-heads-eq-MOST_HEADS : goal.returns-then-heads-eq-MOST_HEADS
-returns-then-heads-eq-MOST_HEADS c = let all = chain-of c.before 131072 c.if-heads-eq-MOST_HEADS.true (omega arith) in record { value = all.0; upper_bound = all.1 }
+returns-then-heads-eq-MOST_HEADS c = let all = chain-of c.before 131072 c.if-heads-eq-MOST_HEADS.true (omega arith) in
+    record { value = all.0; upper_bound = all.1 }
 
 pub returns-then-heads-eq-SOME_HEADS : goal.returns-then-heads-eq-SOME_HEADS
-returns-then-heads-eq-SOME_HEADS c = let all = chain-of c.before.before 8192 c.if-heads-eq-SOME_HEADS.true (omega arith) in record { value = all.0; upper_bound = all.1 }
+returns-then-heads-eq-SOME_HEADS c = let all = chain-of c.before.before 8192 c.if-heads-eq-SOME_HEADS.true (omega arith) in
+    record { value = all.0; upper_bound = all.1 }
 
 pub returns : goal.returns
 returns c = let all = chain-of c.before.before _ refl c.requires in record { value = all.0; upper_bound = all.1 }

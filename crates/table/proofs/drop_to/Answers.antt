@@ -1,7 +1,6 @@
 -- `drop_to` leaves the table of the first nodes: one node is taken out at each turn (IndexStores). Assumes nothing.
-use Rattle.std.proofs.Common.{refl, rules}
-use Rattle.table.specs.Indexed.{table_of}
-use Rattle.table.proofs.IndexStores.{Dropping, drop-start, drop-next, drop-end}
+use Rattle.std.proofs.Common.{refl}
+use Rattle.table.proofs.IndexStores.{drop-start, drop-next, drop-end}
 use Rattle.table.proofs.drop_to.Goals as goal
 
 pub loop-k-init : goal.loop-k-init

@@ -1,5 +1,5 @@
 -- `link` puts a place to the front of its chain. Assumes nothing.
-use Rattle.std.proofs.Common.{ℕ, get_or, set, ap, rules}
+use Rattle.std.proofs.Common.{ℕ, get_or, set, ap}
 use Rattle.table.specs.Indexed.{index_made}
 use Rattle.table.proofs.link.Goals as goal
 

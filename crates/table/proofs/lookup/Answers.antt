@@ -1,10 +1,11 @@
 -- `lookup` finds by the index what the walk from place 2 finds: the loop goes down one chain (Chain). Assumes nothing.
-use Rattle.std.proofs.Common.{sym, ap, rules, eq-eqb, ne_eqb}
+use Rattle.std.proofs.Common.{sym, ap, eq-eqb, ne_eqb}
 use Rattle.table.specs.Nodes.{node_of, alike}
-use Rattle.table.specs.Indexed.{table_of, found_of}
-use Rattle.table.proofs.Chain.{Chain, chain-start, chain-less, chain_next, chain-hit, chain-end}
+use Rattle.table.specs.Indexed.{found_of}
+use Rattle.table.proofs.Chain.{chain-start, chain-less, chain_next, chain-hit, chain-end}
 use Rattle.table.proofs.lookup.Goals as goal
-use Rattle.table.proofs.lookup.Goals.{else-vars-i-via-then-vars-i+then-lows-i+else-highs-i, else-vars-i-via-then-vars-i+else-lows-i, else-vars-i-via-else-vars-i}
+use Rattle.table.proofs.lookup.Goals.{else-vars-i-via-then-vars-i+then-lows-i+else-highs-i, else-vars-i-via-then-vars-i+else-lows-i}
+use Rattle.table.proofs.lookup.Goals.{else-vars-i-via-else-vars-i}
 
 pub loop-k-init : goal.loop-k-init
 loop-k-init c =

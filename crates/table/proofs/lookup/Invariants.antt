@@ -1,8 +1,7 @@
 -- `lookup` finds by the index what the walk from place 2 finds: the loop goes down one chain (Chain). Assumes nothing.
-use Rattle.std.proofs.Common.{sym, ap, ⊎_elim, rules, eq-eqb, ne_eqb}
-use Rattle.table.specs.Nodes.{node_of, alike}
-use Rattle.table.specs.Indexed.{table_of, found_of}
-use Rattle.table.proofs.Chain.{Chain, chain-start, chain-less, chain_next, chain-hit, chain-end}
+use Rattle.table.specs.Nodes.{node_of}
+use Rattle.table.specs.Indexed.{table_of}
+use Rattle.table.proofs.Chain.{Chain}
 use Rattle.table.proofs.lookup.Given as goal
 
 abbrev pub invariant-loop-k : goal.invariant-loop-k

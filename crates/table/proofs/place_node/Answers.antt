@@ -1,5 +1,5 @@
 -- `place_node` gives the child, the place found, a new place, or `full`, as the definition does, and tells which. Assumes nothing.
-use Rattle.std.proofs.Common.{sym, ◌∙◌, arith, rules}
+use Rattle.std.proofs.Common.{sym, ◌∙◌, arith}
 use Rattle.table.proofs.IndexStores.{found_some, found_none, put-equal, put-found, put-new, put_full, took-equal, took-found}
 use Rattle.table.proofs.IndexStores.{took-new, took-full}
 use Rattle.table.proofs.place_node.Goals as goal

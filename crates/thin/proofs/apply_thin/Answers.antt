@@ -4,7 +4,6 @@ use mathlib.Core.Path.{◌≡◌, refl, sym, ap, ◌∙◌, subst}
 use mathlib.Core.List.{List}
 use Prim.Native.Nat.{ℕ}
 use native.Mathlib.Omega.{arith}
-use borrow.Author.Rules.{rules}
 use Rattle.meaning.proofs.Booleans.{t≢f}
 use Rattle.table.specs.declared.NodeNo.{NodeNo}
 use Rattle.table.specs.Indexed.{Table, table_of}

@@ -1,14 +1,12 @@
 -- The steps are put one by one: at each turn the node, under the steps that are left, is the diagram asked for, and placing it in the table
 -- as it is now is placing it in the first. Assumes nothing.
-use mathlib.Core.Logic.{⊎_elim}
 use mathlib.Core.Path.{◌≡◌, refl, sym, ap₂, ◌∙◌, subst}
 use mathlib.Core.Bool.{Bool}
-use Prim.Native.Nat.{ℕ, suc, ◌-◌, ◌≤◌}
+use Prim.Native.Nat.{ℕ, suc, ◌-◌}
 use native.Mathlib.Omega.{arith}
-use lib.ListN.{length, get_or}
+use lib.ListN.{get_or}
 use lib.Dec.{eqb}
 use borrow.Author.Tests.{eq-eqb, ne_eqb}
-use borrow.Author.Rules.{rules}
 use Rattle.meaning.specs.Diagram.{Diagram}
 use Rattle.table.specs.declared.NodeNo.{NodeNo}
 use Rattle.table.specs.Nodes.{diagram_at}
@@ -17,7 +15,6 @@ use Rattle.table.proofs.Outcomes.{put_in}
 use Rattle.thin.specs.Thin.{wrapped}
 use Rattle.thin.proofs.Building.{put_by, Rising, rising-first, rising-last, rising-full, rising-next}
 use mathlib.Core.Logic.{◌⊎◌, inl, inr}
-use mathlib.Core.List.{List}
 use Rattle.thin.proofs.build_up.Goals.{then-sides-d-eq1, else-sides-d-eq1}
 use Rattle.thin.proofs.build_up.Goals as goal
 
@@ -59,7 +56,8 @@ returns-then-p c =
     let k : ℕ = l.d - 1 in
     let e : l.d ≡ suc k = omega (arith, c.loop-d-test.true) in
     let R = subst (λ (d : ℕ). Rising a.xs.now a.told.now a.sides.now T D t d l.r.0) e l.invariant.0 in
-    let m : o ≡ put_by (eqb (get_or a.sides.now k 0) 1) t (get_or a.xs.now k 0) (get_or a.told.now k 0) l.r.0 = c.put-p.ensures ∙ sided t (get_or a.xs.now k 0) l.r (get_or a.told.now k 0) (get_or a.sides.now k 0) c.if-sides-d-eq1.low c.if-sides-d-eq1.high
+    let m : o ≡ put_by (eqb (get_or a.sides.now k 0) 1) t (get_or a.xs.now k 0) (get_or a.told.now k 0) l.r.0 = c.put-p.ensures
+    ∙ sided t (get_or a.xs.now k 0) l.r (get_or a.told.now k 0) (get_or a.sides.now k 0) c.if-sides-d-eq1.low c.if-sides-d-eq1.high
     (elim c.if-sides-d-eq1.branch [
       | then-sides-d-eq1 w ↦ inl (w.if-sides-d-eq1.true, w.low-is, w.high-is)
       | else-sides-d-eq1 w ↦ inr (w.if-sides-d-eq1.false, w.low-is, w.high-is)
@@ -77,7 +75,8 @@ loop-d-preserved c =
     let k : ℕ = l.d - 1 in
     let e : l.d ≡ suc k = omega (arith, c.loop-d-test.true) in
     let R = subst (λ (d : ℕ). Rising a.xs.now a.told.now a.sides.now T D t d l.r.0) e l.invariant.0 in
-    let m : o ≡ put_by (eqb (get_or a.sides.now k 0) 1) t (get_or a.xs.now k 0) (get_or a.told.now k 0) l.r.0 = c.put-p.ensures ∙ sided t (get_or a.xs.now k 0) l.r (get_or a.told.now k 0) (get_or a.sides.now k 0) c.if-sides-d-eq1.low c.if-sides-d-eq1.high
+    let m : o ≡ put_by (eqb (get_or a.sides.now k 0) 1) t (get_or a.xs.now k 0) (get_or a.told.now k 0) l.r.0 = c.put-p.ensures
+    ∙ sided t (get_or a.xs.now k 0) l.r (get_or a.told.now k 0) (get_or a.sides.now k 0) c.if-sides-d-eq1.low c.if-sides-d-eq1.high
     (elim c.if-sides-d-eq1.branch [
       | then-sides-d-eq1 w ↦ inl (w.if-sides-d-eq1.true, w.low-is, w.high-is)
       | else-sides-d-eq1 w ↦ inr (w.if-sides-d-eq1.false, w.low-is, w.high-is)

@@ -1,21 +1,18 @@
 -- Under the steps written the result stays the one asked, in every table with these columns, and each step comes to later variables: so
 -- there are at most 64. Assumes nothing.
-use mathlib.Core.Path.{◌≡◌, sym, ◌∙◌, subst}
+use mathlib.Core.Path.{◌≡◌, ◌∙◌, subst}
 use mathlib.Core.List.{List}
 use Prim.Native.Nat.{ℕ, ◌-◌, ◌<◌}
 use native.Mathlib.Omega.{arith}
-use lib.ListN.{length, length-set}
-use borrow.Author.Rules.{rules}
+use lib.ListN.{length-set}
 use Rattle.table.specs.declared.NodeNo.{NodeNo}
-use Rattle.table.specs.Indexed.{Table, table_of}
+use Rattle.table.specs.Indexed.{table_of}
 use Rattle.operate.specs.declared.Operation.{Operation}
 use Rattle.operate.specs.Inner.{operation_of, top}
 use Rattle.thin.specs.declared.StepDown.{StepDown}
 use Rattle.thin.specs.declared.StepDown.TheVariants.{Told, One, Over}
 use Rattle.thin.specs.Thin.{Given, StepSays, result_at}
 use Rattle.thin.proofs.Descending.{GoingDown, going-first, going-told, going-one, step_room, going-over, top_within}
-use Rattle.words.specs.declared.Literals as words
-use Rattle.operate.specs.declared.step.Kind.{Kind}
 use Rattle.thin.specs.Thin.{SomeGiven}
 use Rattle.thin.proofs.go_down.Goals as goal
 
@@ -27,7 +24,8 @@ module _ (op : Operation) (shared : ℕ) (vars lows highs : List ℕ) (first sec
     → StepSays op shared (table_of vars lows highs heads links count) (top vars f g)
     (result_at op (table_of vars lows highs heads links count) f g) y) where
   -- what the code's step says
-  says : (r : StepDown) → y ≡ r → (heads links : List ℕ) (count : ℕ) → Given op shared (table_of vars lows highs heads links count) first second
+  says : (r : StepDown) → y ≡ r → (heads links : List ℕ) (count : ℕ) → Given op shared (table_of vars lows highs heads links count) first
+      second
       → StepSays op shared (table_of vars lows highs heads links count) (top vars f g)
       (result_at op (table_of vars lows highs heads links count) f g) r
   says r e heads links count H =
@@ -35,7 +33,8 @@ module _ (op : Operation) (shared : ℕ) (vars lows highs : List ℕ) (first sec
       (result_at op (table_of vars lows highs heads links count) f g)) e (step heads links count (come heads links count H).given)
 
   -- a step that is written has room
-  room : SomeGiven op shared vars lows highs first second → (x : ℕ) (k : NodeNo) (side : ℕ) (a b : NodeNo) → y ≡ Over x k side a b → depth < 64
+  room : SomeGiven op shared vars lows highs first second → (x : ℕ) (k : NodeNo) (side : ℕ) (a b : NodeNo) → y ≡ Over x k side a b →
+      depth < 64
   room R x k side a b e =
       step_room op shared (table_of vars lows highs R.heads R.links R.count) first second xs told sides f g depth
       (come R.heads R.links R.count R.given) x k side a b (says (Over x k side a b) e R.heads R.links R.count R.given)
@@ -54,8 +53,10 @@ returns-in-Told c =
     let a = c.args in
     let l = c.loop-node in
     λ heads links count H.
-    let h = says (operation_of a.kind a.by) a.by.positive a.vars.now a.lows.now a.highs.now a.first.0 a.second.0 l.xs l.told l.sides l.f.0 l.g.0 l.depth l.invariant.3 c.step_down.result c.step_down.ensures (Told c.in-Told.node) c.in-Told.is heads links count in
-    going-told (operation_of a.kind a.by) a.by.positive (table_of a.vars.now a.lows.now a.highs.now heads links count) a.first.0 a.second.0 l.xs l.told l.sides l.f.0 l.g.0 l.depth
+    let h = says (operation_of a.kind a.by) a.by.positive a.vars.now a.lows.now a.highs.now a.first.0 a.second.0 l.xs l.told l.sides l.f.0
+    l.g.0 l.depth l.invariant.3 c.step_down.result c.step_down.ensures (Told c.in-Told.node) c.in-Told.is heads links count in
+    going-told (operation_of a.kind a.by) a.by.positive (table_of a.vars.now a.lows.now a.highs.now heads links count) a.first.0 a.second.0
+    l.xs l.told l.sides l.f.0 l.g.0 l.depth
     (l.invariant.3 heads links count H) c.in-Told.node (h H)
 
 pub loop-node-smaller-in-One : goal.loop-node-smaller-in-One
@@ -63,8 +64,15 @@ loop-node-smaller-in-One c =
     let a = c.args in
     let l = c.loop-node in
     let r = c.requires.0 in
-    let h = (says (operation_of a.kind a.by) a.by.positive a.vars.now a.lows.now a.highs.now a.first.0 a.second.0 l.xs l.told l.sides l.f.0 l.g.0 l.depth l.invariant.3 c.step_down.result c.step_down.ensures (One c.in-One.a c.in-One.b) c.in-One.is r.heads r.links r.count r.given) in
-    omega (arith, h.1, top_within (operation_of a.kind a.by) a.by.positive (table_of a.vars.now a.lows.now a.highs.now r.heads r.links r.count) c.in-One.a.0 c.in-One.b.0 h.0)
+    let h = (says (operation_of a.kind a.by) a.by.positive a.vars.now a.lows.now a.highs.now a.first.0 a.second.0 l.xs l.told l.sides l.f.0
+    l.g.0 l.depth l.invariant.3 c.step_down.result c.step_down.ensures (One c.in-One.a c.in-One.b) c.in-One.is r.heads r.links r.count
+    r.given) in
+    omega (
+      arith,
+      h.1,
+      top_within (operation_of a.kind a.by) a.by.positive
+          (table_of a.vars.now a.lows.now a.highs.now r.heads r.links r.count) c.in-One.a.0 c.in-One.b.0 h.0,
+    )
 
 pub loop-node-preserved-in-One : goal.loop-node-preserved-in-One
 loop-node-preserved-in-One c =
@@ -74,61 +82,105 @@ loop-node-preserved-in-One c =
       l.invariant.1,
       l.invariant.2,
       λ heads links count H.
-          going-one (operation_of a.kind a.by) a.by.positive (table_of a.vars.now a.lows.now a.highs.now heads links count) a.first.0 a.second.0 l.xs l.told l.sides l.f.0 l.g.0 l.depth
+          going-one (operation_of a.kind a.by) a.by.positive (table_of a.vars.now a.lows.now a.highs.now heads links count) a.first.0
+          a.second.0 l.xs l.told l.sides l.f.0 l.g.0 l.depth
           (l.invariant.3 heads links count H) c.in-One.a c.in-One.b
-          (says (operation_of a.kind a.by) a.by.positive a.vars.now a.lows.now a.highs.now a.first.0 a.second.0 l.xs l.told l.sides l.f.0 l.g.0 l.depth l.invariant.3 c.step_down.result c.step_down.ensures (One c.in-One.a c.in-One.b) c.in-One.is heads links count H),
+          (says (operation_of a.kind a.by) a.by.positive a.vars.now a.lows.now a.highs.now a.first.0 a.second.0 l.xs l.told l.sides l.f.0
+          l.g.0 l.depth l.invariant.3 c.step_down.result c.step_down.ensures (One c.in-One.a c.in-One.b) c.in-One.is heads links count
+          H),
     )
 
 pub bounds-xs-depth : goal.bounds-xs-depth
 bounds-xs-depth c =
     let a = c.args in
     let l = c.loop-node in
-    omega (arith, room (operation_of a.kind a.by) a.by.positive a.vars.now a.lows.now a.highs.now a.first.0 a.second.0 l.xs l.told l.sides l.f.0 l.g.0 l.depth l.invariant.3 c.step_down.result c.step_down.ensures c.requires.0 c.in-Over.x c.in-Over.k c.in-Over.side c.in-Over.a c.in-Over.b c.in-Over.is, l.invariant.0)
+    omega (
+      arith,
+      room (operation_of a.kind a.by) a.by.positive a.vars.now a.lows.now a.highs.now a.first.0 a.second.0 l.xs l.told l.sides
+          l.f.0 l.g.0 l.depth l.invariant.3 c.step_down.result c.step_down.ensures c.requires.0 c.in-Over.x c.in-Over.k c.in-Over.side
+          c.in-Over.a c.in-Over.b c.in-Over.is,
+      l.invariant.0,
+    )
 
 pub offset_bounds-told-depth : goal.offset_bounds-told-depth
 offset_bounds-told-depth c =
     let a = c.args in
     let l = c.loop-node in
-    omega (arith, room (operation_of a.kind a.by) a.by.positive a.vars.now a.lows.now a.highs.now a.first.0 a.second.0 l.xs l.told l.sides l.f.0 l.g.0 l.depth l.invariant.3 c.step_down.result c.step_down.ensures c.requires.0 c.in-Over.x c.in-Over.k c.in-Over.side c.in-Over.a c.in-Over.b c.in-Over.is)
+    omega (
+      arith,
+      room (operation_of a.kind a.by) a.by.positive a.vars.now a.lows.now a.highs.now a.first.0 a.second.0 l.xs l.told l.sides
+          l.f.0 l.g.0 l.depth l.invariant.3 c.step_down.result c.step_down.ensures c.requires.0 c.in-Over.x c.in-Over.k c.in-Over.side
+          c.in-Over.a c.in-Over.b c.in-Over.is,
+    )
 
 pub bounds-told-depth : goal.bounds-told-depth
 bounds-told-depth c =
     let a = c.args in
     let l = c.loop-node in
-    omega (arith, room (operation_of a.kind a.by) a.by.positive a.vars.now a.lows.now a.highs.now a.first.0 a.second.0 l.xs l.told l.sides l.f.0 l.g.0 l.depth l.invariant.3 c.step_down.result c.step_down.ensures c.requires.0 c.in-Over.x c.in-Over.k c.in-Over.side c.in-Over.a c.in-Over.b c.in-Over.is, l.invariant.1)
+    omega (
+      arith,
+      room (operation_of a.kind a.by) a.by.positive a.vars.now a.lows.now a.highs.now a.first.0 a.second.0 l.xs l.told l.sides
+          l.f.0 l.g.0 l.depth l.invariant.3 c.step_down.result c.step_down.ensures c.requires.0 c.in-Over.x c.in-Over.k c.in-Over.side
+          c.in-Over.a c.in-Over.b c.in-Over.is,
+      l.invariant.1,
+    )
 
 pub bounds-sides-depth : goal.bounds-sides-depth
 bounds-sides-depth c =
     let a = c.args in
     let l = c.loop-node in
-    omega (arith, room (operation_of a.kind a.by) a.by.positive a.vars.now a.lows.now a.highs.now a.first.0 a.second.0 l.xs l.told l.sides l.f.0 l.g.0 l.depth l.invariant.3 c.step_down.result c.step_down.ensures c.requires.0 c.in-Over.x c.in-Over.k c.in-Over.side c.in-Over.a c.in-Over.b c.in-Over.is, l.invariant.2)
+    omega (
+      arith,
+      room (operation_of a.kind a.by) a.by.positive a.vars.now a.lows.now a.highs.now a.first.0 a.second.0 l.xs l.told l.sides
+          l.f.0 l.g.0 l.depth l.invariant.3 c.step_down.result c.step_down.ensures c.requires.0 c.in-Over.x c.in-Over.k c.in-Over.side
+          c.in-Over.a c.in-Over.b c.in-Over.is,
+      l.invariant.2,
+    )
 
 pub overflow_add-depth : goal.overflow_add-depth
 overflow_add-depth c =
     let a = c.args in
     let l = c.loop-node in
-    omega (arith, room (operation_of a.kind a.by) a.by.positive a.vars.now a.lows.now a.highs.now a.first.0 a.second.0 l.xs l.told l.sides l.f.0 l.g.0 l.depth l.invariant.3 c.step_down.result c.step_down.ensures c.requires.0 c.in-Over.x c.in-Over.k c.in-Over.side c.in-Over.a c.in-Over.b c.in-Over.is)
+    omega (
+      arith,
+      room (operation_of a.kind a.by) a.by.positive a.vars.now a.lows.now a.highs.now a.first.0 a.second.0 l.xs l.told l.sides
+          l.f.0 l.g.0 l.depth l.invariant.3 c.step_down.result c.step_down.ensures c.requires.0 c.in-Over.x c.in-Over.k c.in-Over.side
+          c.in-Over.a c.in-Over.b c.in-Over.is,
+    )
 
 pub loop-node-smaller : goal.loop-node-smaller
 loop-node-smaller c =
     let a = c.args in
     let l = c.loop-node in
     let r = c.requires.0 in
-    let h = (says (operation_of a.kind a.by) a.by.positive a.vars.now a.lows.now a.highs.now a.first.0 a.second.0 l.xs l.told l.sides l.f.0 l.g.0 l.depth l.invariant.3 c.step_down.result c.step_down.ensures (Over c.in-Over.x c.in-Over.k c.in-Over.side c.in-Over.a c.in-Over.b) c.in-Over.is r.heads r.links r.count r.given) in
-    omega (arith, h.1, h.3, top_within (operation_of a.kind a.by) a.by.positive (table_of a.vars.now a.lows.now a.highs.now r.heads r.links r.count) c.in-Over.a.0 c.in-Over.b.0 h.0)
+    let h = (says (operation_of a.kind a.by) a.by.positive a.vars.now a.lows.now a.highs.now a.first.0 a.second.0 l.xs l.told l.sides l.f.0
+    l.g.0 l.depth l.invariant.3 c.step_down.result c.step_down.ensures
+    (Over c.in-Over.x c.in-Over.k c.in-Over.side c.in-Over.a c.in-Over.b) c.in-Over.is r.heads r.links r.count r.given) in
+    omega (
+      arith,
+      h.1,
+      h.3,
+      top_within (operation_of a.kind a.by) a.by.positive
+          (table_of a.vars.now a.lows.now a.highs.now r.heads r.links r.count) c.in-Over.a.0 c.in-Over.b.0 h.0,
+    )
 
 pub loop-node-preserved : goal.loop-node-preserved
 loop-node-preserved c =
     let a = c.args in
     let l = c.loop-node in
-    let room = room (operation_of a.kind a.by) a.by.positive a.vars.now a.lows.now a.highs.now a.first.0 a.second.0 l.xs l.told l.sides l.f.0 l.g.0 l.depth l.invariant.3 c.step_down.result c.step_down.ensures c.requires.0 c.in-Over.x c.in-Over.k c.in-Over.side c.in-Over.a c.in-Over.b c.in-Over.is in (
+    let room = room (operation_of a.kind a.by) a.by.positive a.vars.now a.lows.now a.highs.now a.first.0 a.second.0 l.xs l.told l.sides
+    l.f.0 l.g.0 l.depth l.invariant.3 c.step_down.result c.step_down.ensures c.requires.0 c.in-Over.x c.in-Over.k c.in-Over.side
+    c.in-Over.a c.in-Over.b c.in-Over.is in (
       length-set l.xs l.depth _ ∙ l.invariant.0,
       length-set l.told l.depth _ ∙ l.invariant.1,
       length-set l.sides l.depth _ ∙ l.invariant.2,
       λ heads links count H.
-          going-over (operation_of a.kind a.by) a.by.positive (table_of a.vars.now a.lows.now a.highs.now heads links count) a.first.0 a.second.0 l.xs l.told l.sides l.f.0 l.g.0 l.depth
+          going-over (operation_of a.kind a.by) a.by.positive (table_of a.vars.now a.lows.now a.highs.now heads links count) a.first.0
+          a.second.0 l.xs l.told l.sides l.f.0 l.g.0 l.depth
           (l.invariant.3 heads links count H) c.in-Over.x c.in-Over.k c.in-Over.side c.in-Over.a c.in-Over.b
-          (says (operation_of a.kind a.by) a.by.positive a.vars.now a.lows.now a.highs.now a.first.0 a.second.0 l.xs l.told l.sides l.f.0 l.g.0 l.depth l.invariant.3 c.step_down.result c.step_down.ensures (Over c.in-Over.x c.in-Over.k c.in-Over.side c.in-Over.a c.in-Over.b) c.in-Over.is heads links count H)
+          (says (operation_of a.kind a.by) a.by.positive a.vars.now a.lows.now a.highs.now a.first.0 a.second.0 l.xs l.told l.sides l.f.0
+          l.g.0 l.depth l.invariant.3 c.step_down.result c.step_down.ensures
+          (Over c.in-Over.x c.in-Over.k c.in-Over.side c.in-Over.a c.in-Over.b) c.in-Over.is heads links count H)
           (omega (arith, room, l.invariant.0)) (omega (arith, room, l.invariant.1)) (omega (arith, room, l.invariant.2)),
     )
 

@@ -1,19 +1,13 @@
 -- Under the steps written the result stays the one asked, in every table with these columns, and each step comes to later variables: so
 -- there are at most 64. Assumes nothing.
-use mathlib.Core.Path.{◌≡◌, sym, ◌∙◌, subst}
+use mathlib.Core.Path.{◌≡◌}
 use mathlib.Core.List.{List}
-use Prim.Native.Nat.{ℕ, ◌-◌, ◌<◌}
-use native.Mathlib.Omega.{arith}
-use lib.ListN.{length, length-set}
-use borrow.Author.Rules.{rules}
-use Rattle.table.specs.declared.NodeNo.{NodeNo}
-use Rattle.table.specs.Indexed.{Table, table_of}
-use Rattle.operate.specs.declared.Operation.{Operation}
+use Prim.Native.Nat.{ℕ, ◌-◌}
+use lib.ListN.{length}
+use Rattle.table.specs.Indexed.{table_of}
 use Rattle.operate.specs.Inner.{operation_of, top}
-use Rattle.thin.specs.declared.StepDown.{StepDown}
-use Rattle.thin.specs.declared.StepDown.TheVariants.{Told, One, Over}
-use Rattle.thin.specs.Thin.{Given, StepSays, result_at}
-use Rattle.thin.proofs.Descending.{GoingDown, going-first, going-told, going-one, step_room, going-over, top_within}
+use Rattle.thin.specs.Thin.{Given}
+use Rattle.thin.proofs.Descending.{GoingDown}
 use Rattle.thin.proofs.go_down.Given as goal
 
 abbrev pub invariant-loop-node : goal.invariant-loop-node
@@ -23,7 +17,8 @@ invariant-loop-node l =
     × (length l.sides ≡ 64)
     × ((heads links : List ℕ) (count : ℕ)
     → Given (operation_of l.kind l.by) l.by.positive (table_of l.vars l.lows l.highs heads links count) l.initial.f.0 l.initial.g.0
-    → GoingDown (operation_of l.kind l.by) l.by.positive (table_of l.vars l.lows l.highs heads links count) l.initial.f.0 l.initial.g.0 l.xs l.told l.sides l.f.0 l.g.0
+    → GoingDown (operation_of l.kind l.by) l.by.positive (table_of l.vars l.lows l.highs heads links count) l.initial.f.0 l.initial.g.0 l.xs
+    l.told l.sides l.f.0 l.g.0
     l.depth)
 
 abbrev pub decreases-loop-node : goal.decreases-loop-node

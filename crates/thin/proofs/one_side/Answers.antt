@@ -1,11 +1,7 @@
 -- A side that is told stands beside the other side's pair, and the variable is over both. Assumes nothing.
 use mathlib.Core.Path.{sym, ◌∙◌}
-use mathlib.Core.List.{List}
-use Prim.Native.Nat.{ℕ}
-use borrow.Author.Rules.{rules}
 use Rattle.table.specs.Indexed.{Table, table_of}
 use Rattle.operate.specs.declared.Operation.{Operation}
-use Rattle.operate.specs.declared.step.Sides.{Sides}
 use Rattle.operate.specs.Inner.{operation_of}
 use Rattle.thin.proofs.Stepping.{given-leveled, low-given, high-given, low_told, high-told}
 use Rattle.thin.proofs.one_side.Goals as goal

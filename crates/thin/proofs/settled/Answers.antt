@@ -1,7 +1,5 @@
 -- The code asks the numbers first and then what is shared, as the definition does. Assumes nothing.
 use mathlib.Core.Path.{◌≡◌, sym, ◌∙◌}
-use borrow.Author.Rules.{rules}
-use Rattle.table.specs.declared.Found.TheVariants.{Nothing}
 use Rattle.operate.specs.Inner.{operation_of, terminal_of}
 use Rattle.operate.proofs.Terminals.{told_of}
 use Rattle.thin.proofs.Stepping.{numbers-tell, is-beyond, not_beyond}

@@ -2,14 +2,11 @@
 use mathlib.Core.Path.{◌≡◌, ap, sym, ◌∙◌}
 use mathlib.Core.List.{List}
 use Prim.Native.Nat.{ℕ}
-use borrow.Author.Rules.{rules}
-use Rattle.table.specs.declared.Found.TheVariants.{Nothing}
 use Rattle.table.specs.Indexed.{Table, table_of}
 use Rattle.operate.specs.declared.Operation.{Operation}
 use Rattle.operate.specs.Inner.{operation_of, sides_of, descent_of}
 use Rattle.operate.proofs.Steps.{sides-ask}
 use Rattle.operate.proofs.Results.{columns-hold}
-use Rattle.thin.specs.Thin.{settled_of}
 use Rattle.thin.proofs.Stepping.{given-leveled, settled-two, step-told, pair_left, sides-left, sides-say}
 use Rattle.words.specs.declared.Literals as words
 use Rattle.operate.specs.declared.step.Kind.{Kind}
@@ -18,7 +15,8 @@ use Rattle.operate.specs.declared.step.Descent.{Descent}
 use Rattle.thin.proofs.step_down.Goals as goal
 
 -- the step that the code takes
-stepped : (kind : Kind) (by : words.Literals) (vars lows highs : List ℕ) (f g : ℕ) (o : Operation) (s : Sides) (r : Descent) → r ≡ descent_of o s
+stepped : (kind : Kind) (by : words.Literals) (vars lows highs : List ℕ) (f g : ℕ) (o : Operation) (s : Sides) (r : Descent) → r
+    ≡ descent_of o s
     → o ≡ operation_of kind by → s ≡ sides_of vars lows highs f g → descent_of (operation_of kind by) (sides_of vars lows highs f g) ≡ r
 stepped kind by vars lows highs f g o s r e is sides =
     sym (e ∙ ap (λ (o : Operation). descent_of o s) is ∙ ap (descent_of (operation_of kind by)) sides)

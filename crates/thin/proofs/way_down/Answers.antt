@@ -1,7 +1,6 @@
 -- `way_down` is the way of its kind; a cofactor by literals has node 1 for its second. Assumes nothing.
 use mathlib.Core.Path.{◌≡◌, sym, subst}
 use Prim.Native.Nat.{ℕ}
-use borrow.Author.Rules.{rules}
 use Rattle.table.specs.Indexed.{table_of}
 use Rattle.operate.specs.Inner.{operation_of}
 use Rattle.operate.specs.declared.step.Kind.{Kind}

@@ -1,9 +1,7 @@
 -- The walk over the places: so many nodes are filled in. Assumes nothing.
 use Prim.Native.Nat.{◌-◌}
 use native.Mathlib.Omega.{arith}
-use lib.ListN.{length}
-use borrow.Author.Rules.{rules}
-use Rattle.touched.proofs.Places.{Filling, filling-none, filling-next, filling-all}
+use Rattle.touched.proofs.Places.{filling-none, filling-next, filling-all}
 use Rattle.touched.proofs.nodes_at.Goals as goal
 
 pub loop-k-init : goal.loop-k-init

@@ -1,9 +1,7 @@
 -- The walk over the places: so many nodes are filled in. Assumes nothing.
 use Prim.Native.Nat.{◌-◌}
-use native.Mathlib.Omega.{arith}
 use lib.ListN.{length}
-use borrow.Author.Rules.{rules}
-use Rattle.touched.proofs.Places.{Filling, filling-none, filling-next, filling-all}
+use Rattle.touched.proofs.Places.{Filling}
 use Rattle.touched.proofs.nodes_at.Given as goal
 
 abbrev pub invariant-loop-k : goal.invariant-loop-k

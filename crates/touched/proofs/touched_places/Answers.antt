@@ -3,8 +3,6 @@ use mathlib.Core.Path.{sym, subst}
 use mathlib.Core.List.{List}
 use Prim.Native.Nat.{ℕ, ◌+◌, ◌-◌}
 use native.Mathlib.Omega.{arith}
-use lib.ListN.{length}
-use borrow.Author.Rules.{rules}
 use Rattle.touched.proofs.Places.{Finding, finding-none, finding-passed, finding-added, finding-all}
 use Rattle.touched.proofs.touched_places.Goals as goal
 use Rattle.touched.proofs.touched_places.Goals.{then-words-i-ne0, else-words-i-ne0}

@@ -2,7 +2,6 @@
 use Rattle.table.specs.Lists.{diagrams_of}
 use Rattle.walks.specs.Readable.{nodes_in}
 use Rattle.propagate.proofs.Quieting.{units-all}
-use borrow.Author.Rules.{rules}
 use Rattle.traces.proofs.first_of.Goals as goal
 
 -- src/lib.rt:88:5

@@ -7,7 +7,6 @@ use lib.Seq.{length-take-le}
 use lib.Bits.{bit_or}
 use Rattle.supports.proofs.Words.{support-leaf}
 use Rattle.touched.specs.Places.{AllBut, Untouched}
-use borrow.Author.Rules.{rules}
 use Rattle.traces.proofs.round.Goals as goal
 
 -- src/lib.rt:69:9
@@ -34,7 +33,8 @@ all_by-requires c =
         refl,
         support-leaf _ 1 0 (omega arith),
         subst
-            (λ (k : ℕ). AllBut k (take c.touched_places-many.result c.touched_places-many.new.places) (Untouched a.words.now (bit_or a.u.positive a.u.negative)))
+            (λ (k : ℕ). AllBut k (take c.touched_places-many.result c.touched_places-many.new.places)
+            (Untouched a.words.now (bit_or a.u.positive a.u.negative)))
             r.1 c.touched_places-many.ensures.1,
       );
     }

@@ -1,10 +1,9 @@
 -- `trace`: round by round the words of U are written, and the members are cofactored by it. Assumes nothing.
-use mathlib.Core.Path.{◌≡◌, refl, sym, ◌∙◌, subst}
+use mathlib.Core.Path.{refl, sym, ◌∙◌, subst}
 use mathlib.Core.List.{List}
 use Prim.Native.Nat.{ℕ, ◌+◌, ◌-◌, ◌<◌}
 use native.Mathlib.Omega.{arith}
 use lib.ListN.{length}
-use borrow.Author.Rules.{rules}
 use Rattle.table.specs.Indexed.{Table, table_of, nodes_of}
 use Rattle.table.specs.Lists.{diagrams_of}
 use Rattle.walks.proofs.Here.{good-readable}
@@ -15,13 +14,16 @@ use Rattle.traces.proofs.trace.Lts as lts
 use Rattle.traces.proofs.trace.Tie as tie
 use Rattle.traces.proofs.trace.Goals as goal
 
-abbrev entry : lts.Start tie.the-claims reads.Pre reads.Post goal.the-invariant-loop-rounds goal.the-decreases-loop-rounds tie.handed_clauses → Table
+abbrev entry : lts.Start tie.the-claims reads.Pre reads.Post goal.the-invariant-loop-rounds goal.the-decreases-loop-rounds
+    tie.handed_clauses → Table
 entry s = let a = s.args in table_of a.vars.now a.lows.now a.highs.now a.heads.now a.links.now a.count
 
-abbrev here : lts.At-loop tie.the-claims reads.Pre reads.Post goal.the-invariant-loop-rounds goal.the-decreases-loop-rounds tie.handed_clauses → Table
+abbrev here : lts.At-loop tie.the-claims reads.Pre reads.Post goal.the-invariant-loop-rounds goal.the-decreases-loop-rounds
+    tie.handed_clauses → Table
 here l = table_of l.loop-rounds.vars l.loop-rounds.lows l.loop-rounds.highs l.loop-rounds.heads l.loop-rounds.links l.loop-rounds.n
 
-abbrev after : lts.After-round tie.the-claims reads.Pre reads.Post goal.the-invariant-loop-rounds goal.the-decreases-loop-rounds tie.handed_clauses → Table
+abbrev after : lts.After-round tie.the-claims reads.Pre reads.Post goal.the-invariant-loop-rounds goal.the-decreases-loop-rounds
+    tie.handed_clauses → Table
 after c =
     table_of c.round-made.new.vars c.round-made.new.lows c.round-made.new.highs c.round-made.new.heads c.round-made.new.links
     c.round-made.result.count
@@ -30,7 +32,8 @@ pub loop-rounds-init : goal.loop-rounds-init
 loop-rounds-init c =
     let a = c.args in
     let r = c.requires in (
-      tracing-first (entry c.before.before.before.before.before.before.before.before.before.before) a.list.now a.memo.now a.words.now a.fixed.now r.fact.0 r.fact.1 r.fact.2 r.in_bounds.1,
+      tracing-first (entry c.before.before.before.before.before.before.before.before.before.before) a.list.now a.memo.now a.words.now
+          a.fixed.now r.fact.0 r.fact.1 r.fact.2 r.in_bounds.1,
       refl,
       refl,
       refl,
@@ -81,14 +84,20 @@ shape_of-fixed-then-rounds-eq64 c =
 pub returns-then-rounds-eq64 : goal.returns-then-rounds-eq64
 returns-then-rounds-eq64 c =
     let a = c.args in
-    tracing-last (entry c.before.before.before.before.before.before.before.before.before.before.before) c.requires.fact.0.good (diagrams_of (nodes_of (entry c.before.before.before.before.before.before.before.before.before.before.before)) a.list.now) (length a.fixed.now) c.requires.fact.4
-    (here c.before) c.loop-rounds.list c.loop-rounds.memo c.loop-rounds.words c.loop-rounds.fixed c.loop-rounds.rounds c.loop-rounds.invariant.0 c.if-rounds-eq64.true
+    tracing-last (entry c.before.before.before.before.before.before.before.before.before.before.before) c.requires.fact.0.good
+    (diagrams_of (nodes_of (entry c.before.before.before.before.before.before.before.before.before.before.before)) a.list.now)
+    (length a.fixed.now) c.requires.fact.4
+    (here c.before) c.loop-rounds.list c.loop-rounds.memo c.loop-rounds.words c.loop-rounds.fixed c.loop-rounds.rounds
+    c.loop-rounds.invariant.0 c.if-rounds-eq64.true
 
 pub first_of-requires : goal.first_of-requires
 first_of-requires c =
     let a = c.args in
-    let R = tracing-ready (entry c.before.before.before.before.before.before.before.before.before.before.before.before) c.requires.fact.0.good (diagrams_of (nodes_of (entry c.before.before.before.before.before.before.before.before.before.before.before.before)) a.list.now) (length a.fixed.now)
-    c.requires.fact.4 (here c.before.before) c.loop-rounds.list c.loop-rounds.memo c.loop-rounds.words c.loop-rounds.fixed c.loop-rounds.rounds c.loop-rounds.invariant.0 in
+    let R = tracing-ready (entry c.before.before.before.before.before.before.before.before.before.before.before.before)
+    c.requires.fact.0.good (diagrams_of (nodes_of
+    (entry c.before.before.before.before.before.before.before.before.before.before.before.before)) a.list.now) (length a.fixed.now)
+    c.requires.fact.4 (here c.before.before) c.loop-rounds.list c.loop-rounds.memo c.loop-rounds.words c.loop-rounds.fixed
+    c.loop-rounds.rounds c.loop-rounds.invariant.0 in
     (good-readable (here c.before.before) R.good, R.inside, R.room)
 
 pub shape_of-vars-in-Nothing : goal.shape_of-vars-in-Nothing
@@ -132,8 +141,10 @@ unfolding nodes_of
 returns-in-Nothing c =
     let a = c.args in
     tracing-still (entry c.before.before.before.before.before.before.before.before.before.before.before.before.before.before.before.before.before) c.requires.fact.0.good (diagrams_of (nodes_of (entry c.before.before.before.before.before.before.before.before.before.before.before.before.before.before.before.before.before)) a.list.now) (length a.fixed.now) c.requires.fact.4
-    (here c.before.before.before.before.before.before.before) c.loop-rounds.list c.loop-rounds.memo c.loop-rounds.words c.loop-rounds.fixed c.loop-rounds.rounds c.loop-rounds.invariant.0
-    (subst (AreFirst 64 (diagrams_of (nodes_of (here c.before.before.before.before.before.before.before)) c.loop-rounds.list)) c.in-Nothing.is
+    (here c.before.before.before.before.before.before.before) c.loop-rounds.list c.loop-rounds.memo c.loop-rounds.words c.loop-rounds.fixed
+    c.loop-rounds.rounds c.loop-rounds.invariant.0
+    (subst (AreFirst 64 (diagrams_of (nodes_of (here c.before.before.before.before.before.before.before)) c.loop-rounds.list))
+    c.in-Nothing.is
     c.first_of.ensures)
 
 pub note-requires : goal.note-requires
@@ -151,9 +162,11 @@ pub round-made-requires : goal.round-made-requires
 unfolding nodes_of
 round-made-requires c =
     let a = c.args in
-    let R = tracing-ready (entry c.before.before.before.before.before.before.before.before.before.before.before.before.before.before.before.before.before.before.before.before.before.before.before.before.before.before.before.before.before) c.requires.fact.0.good (diagrams_of (nodes_of (entry c.before.before.before.before.before.before.before.before.before.before.before.before.before.before.before.before.before.before.before.before.before.before.before.before.before.before.before.before.before)) a.list.now) (length a.fixed.now)
+    let R = tracing-ready (entry
+    c.before.before.before.before.before.before.before.before.before.before.before.before.before.before.before.before.before.before.before.before.before.before.before.before.before.before.before.before.before) c.requires.fact.0.good (diagrams_of (nodes_of (entry c.before.before.before.before.before.before.before.before.before.before.before.before.before.before.before.before.before.before.before.before.before.before.before.before.before.before.before.before.before)) a.list.now) (length a.fixed.now)
     c.requires.fact.4 (here c.before.before.before.before.before.before.before.before.before.before.before.before.before.before.before.before.before.before.before) c.loop-rounds.list c.loop-rounds.memo c.loop-rounds.words c.loop-rounds.fixed c.loop-rounds.rounds c.loop-rounds.invariant.0 in
-    let F = subst (AreFirst 64 (diagrams_of (nodes_of (here c.before.before.before.before.before.before.before.before.before.before.before.before.before.before.before.before.before.before.before)) c.loop-rounds.list))
+    let F = subst (AreFirst 64 (diagrams_of (nodes_of
+    (here c.before.before.before.before.before.before.before.before.before.before.before.before.before.before.before.before.before.before.before)) c.loop-rounds.list))
     c.in-Of.is
     c.first_of.ensures in (
       record {
@@ -213,7 +226,8 @@ pub returns-then-made : goal.returns-then-made
 unfolding nodes_of
 returns-then-made c =
     let a = c.args in
-    let F = subst (AreFirst 64 (diagrams_of (nodes_of (here c.before.before.before.before.before.before.before.before.before.before.before.before.before.before.before.before.before.before.before.before.before.before.before.before.before.before.before.before.before.before.before.before.before.before.before.before.before)) c.loop-rounds.list))
+    let F = subst (AreFirst 64 (diagrams_of (nodes_of
+    (here c.before.before.before.before.before.before.before.before.before.before.before.before.before.before.before.before.before.before.before.before.before.before.before.before.before.before.before.before.before.before.before.before.before.before.before.before.before)) c.loop-rounds.list))
     c.in-Of.is c.first_of.ensures in
     let less : c.loop-rounds.rounds < 64 = omega (
       arith,
@@ -222,7 +236,9 @@ returns-then-made c =
     ) in
     tracing-full (entry c.before.before.before.before.before.before.before.before.before.before.before.before.before.before.before.before.before.before.before.before.before.before.before.before.before.before.before.before.before.before.before.before.before.before.before.before.before.before.before.before.before.before.before.before.before.before.before) c.requires.fact.0.good (diagrams_of (nodes_of (entry c.before.before.before.before.before.before.before.before.before.before.before.before.before.before.before.before.before.before.before.before.before.before.before.before.before.before.before.before.before.before.before.before.before.before.before.before.before.before.before.before.before.before.before.before.before.before.before)) a.list.now) (length a.fixed.now) c.requires.fact.4
     (here c.before.before.before.before.before.before.before.before.before.before.before.before.before.before.before.before.before.before.before.before.before.before.before.before.before.before.before.before.before.before.before.before.before.before.before.before.before) c.loop-rounds.list c.loop-rounds.memo c.loop-rounds.words c.loop-rounds.fixed c.loop-rounds.rounds c.loop-rounds.invariant.0 less
-    c.in-Of.u F.0 c.round-made.result.full (after c.before.before.before.before.before.before.before.before.before.before.before.before.before.before.before.before.before.before) c.round-made.new.list c.round-made.ensures.fact c.if-made.true _
+    c.in-Of.u F.0 c.round-made.result.full (after
+    c.before.before.before.before.before.before.before.before.before.before.before.before.before.before.before.before.before.before)
+    c.round-made.new.list c.round-made.ensures.fact c.if-made.true _
 
 pub overflow_add-rounds : goal.overflow_add-rounds
 overflow_add-rounds c =
@@ -246,22 +262,27 @@ pub loop-rounds-preserved : goal.loop-rounds-preserved
 unfolding nodes_of
 loop-rounds-preserved c =
     let a = c.args in
-    let F = subst (AreFirst 64 (diagrams_of (nodes_of (here c.before.before.before.before.before.before.before.before.before.before.before.before.before.before.before.before.before.before.before.before.before.before.before.before.before.before.before.before.before.before.before.before.before.before.before.before.before)) c.loop-rounds.list))
+    let F = subst (AreFirst 64 (diagrams_of (nodes_of
+    (here c.before.before.before.before.before.before.before.before.before.before.before.before.before.before.before.before.before.before.before.before.before.before.before.before.before.before.before.before.before.before.before.before.before.before.before.before.before)) c.loop-rounds.list))
     c.in-Of.is c.first_of.ensures in
     let less : c.loop-rounds.rounds < 64 = omega (
       arith,
       c.loop-rounds.invariant.0.going.most,
       c.if-rounds-eq64.false,
     ) in
-    let t = tracing-on (entry c.before.before.before.before.before.before.before.before.before.before.before.before.before.before.before.before.before.before.before.before.before.before.before.before.before.before.before.before.before.before.before.before.before.before.before.before.before.before.before.before.before.before.before.before.before.before.before) c.requires.fact.0.good (diagrams_of (nodes_of (entry c.before.before.before.before.before.before.before.before.before.before.before.before.before.before.before.before.before.before.before.before.before.before.before.before.before.before.before.before.before.before.before.before.before.before.before.before.before.before.before.before.before.before.before.before.before.before.before)) a.list.now) (length a.fixed.now)
+    let t = tracing-on (entry
+    c.before.before.before.before.before.before.before.before.before.before.before.before.before.before.before.before.before.before.before.before.before.before.before.before.before.before.before.before.before.before.before.before.before.before.before.before.before.before.before.before.before.before.before.before.before.before.before) c.requires.fact.0.good (diagrams_of (nodes_of (entry c.before.before.before.before.before.before.before.before.before.before.before.before.before.before.before.before.before.before.before.before.before.before.before.before.before.before.before.before.before.before.before.before.before.before.before.before.before.before.before.before.before.before.before.before.before.before.before)) a.list.now) (length a.fixed.now)
     c.requires.fact.4 (here c.before.before.before.before.before.before.before.before.before.before.before.before.before.before.before.before.before.before.before.before.before.before.before.before.before.before.before.before.before.before.before.before.before.before.before.before.before) c.loop-rounds.list c.loop-rounds.memo c.loop-rounds.words c.loop-rounds.fixed c.loop-rounds.rounds c.loop-rounds.invariant.0 less
-    c.in-Of.u F.0 c.round-made.result.full (after c.before.before.before.before.before.before.before.before.before.before.before.before.before.before.before.before.before.before) c.round-made.new.list c.round-made.ensures.fact c.if-made.false
+    c.in-Of.u F.0 c.round-made.result.full (after
+    c.before.before.before.before.before.before.before.before.before.before.before.before.before.before.before.before.before.before)
+    c.round-made.new.list c.round-made.ensures.fact c.if-made.false
     c.round-made.new.memo (c.round-made.auto.memo ∙ c.first_of.auto.memo)
     c.round-made.new.words (c.round-made.auto.words ∙ c.loop-rounds.invariant.0.worded ∙ sym c.round-made.auto.list)
     (c.round-made.ensures.supports c.if-made.false) c.requires.in_bounds.0
     c.note.ensures.positive_bound.0
     c.note.ensures.positive_bound.1 in (
-      subst (λ (x : List ℕ). Tracing (entry c.before.before.before.before.before.before.before.before.before.before.before.before.before.before.before.before.before.before.before.before.before.before.before.before.before.before.before.before.before.before.before.before.before.before.before.before.before.before.before.before.before.before.before.before.before.before.before) (diagrams_of (nodes_of (entry c.before.before.before.before.before.before.before.before.before.before.before.before.before.before.before.before.before.before.before.before.before.before.before.before.before.before.before.before.before.before.before.before.before.before.before.before.before.before.before.before.before.before.before.before.before.before.before)) a.list.now) (length a.fixed.now)
+      subst (λ (x : List ℕ). Tracing
+          (entry c.before.before.before.before.before.before.before.before.before.before.before.before.before.before.before.before.before.before.before.before.before.before.before.before.before.before.before.before.before.before.before.before.before.before.before.before.before.before.before.before.before.before.before.before.before.before.before) (diagrams_of (nodes_of (entry c.before.before.before.before.before.before.before.before.before.before.before.before.before.before.before.before.before.before.before.before.before.before.before.before.before.before.before.before.before.before.before.before.before.before.before.before.before.before.before.before.before.before.before.before.before.before.before)) a.list.now) (length a.fixed.now)
           (after c.before.before.before.before.before.before.before.before.before.before.before.before.before.before.before.before.before.before) c.round-made.new.list c.round-made.new.memo c.round-made.new.words x (c.loop-rounds.rounds + 1))
           (sym c.note.ensures.fixed_after) t,
       c.round-made.auto.vars ∙ c.loop-rounds.invariant.1,

@@ -1,5 +1,4 @@
 -- `witness`: the pivot put in and its negation taken out, by its sign. Assumes nothing.
-use borrow.Author.Rules.{rules}
 use Rattle.tries.proofs.Setting.{words-true, words-false}
 use Rattle.tries.proofs.witness.Goals as goal
 

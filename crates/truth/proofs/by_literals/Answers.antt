@@ -1,10 +1,7 @@
 -- `by_literals` goes down the variables: what is left to be done is what is to be done. Assumes nothing.
 use borrow.Author.Rules.{rules}
-use mathlib.Core.Path.{◌≡◌, sym, ◌∙◌}
-use Prim.Native.Nat.{◌≤◌}
+use mathlib.Core.Path.{sym, ◌∙◌}
 use native.Mathlib.Omega.{arith}
-use Rattle.meaning.specs.Words.{in_word}
-use Rattle.truth.specs.Tables.{by_literals}
 use Rattle.truth.proofs.Forms.{literals-step, literals-last}
 use Rattle.truth.proofs.by_literals.Goals as goal
 

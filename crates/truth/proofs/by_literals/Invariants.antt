@@ -1,11 +1,8 @@
 -- `by_literals` goes down the variables: what is left to be done is what is to be done. Assumes nothing.
-use borrow.Author.Rules.{rules}
-use mathlib.Core.Path.{◌≡◌, sym, ◌∙◌}
+use mathlib.Core.Path.{◌≡◌}
 use Prim.Native.Nat.{◌≤◌}
-use native.Mathlib.Omega.{arith}
 use Rattle.meaning.specs.Words.{in_word}
 use Rattle.truth.specs.Tables.{by_literals}
-use Rattle.truth.proofs.Forms.{literals-step, literals-last}
 use Rattle.truth.proofs.by_literals.Given as goal
 
 abbrev pub invariant-loop-v : goal.invariant-loop-v

@@ -1,11 +1,8 @@
 -- `by_units` goes down the variables: what is left to be done is what is to be done. Assumes nothing.
-use borrow.Author.Rules.{rules}
-use mathlib.Core.Path.{◌≡◌, sym, ◌∙◌}
+use mathlib.Core.Path.{◌≡◌}
 use mathlib.Core.Bool.{true, false}
 use Prim.Native.Nat.{◌≤◌}
-use native.Mathlib.Omega.{arith}
 use Rattle.truth.specs.Tables.{by_literals, word_unit}
-use Rattle.truth.proofs.Forms.{literals-step, literals-last, units-is}
 use Rattle.truth.proofs.by_units.Given as goal
 
 abbrev pub invariant-loop-v : goal.invariant-loop-v

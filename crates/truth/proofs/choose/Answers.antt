@@ -1,6 +1,5 @@
 -- `choose`: f where g holds, else f at the neighbour. The idea: the three words are the definition's. Assumes nothing.
 use Rattle.truth.proofs.Forms.{chosen_is}
-use borrow.Author.Rules.{rules}
 use Rattle.truth.proofs.choose.Goals as goal
 
 pub returns : goal.returns

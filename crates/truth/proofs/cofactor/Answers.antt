@@ -2,10 +2,7 @@
 use mathlib.Core.Path.{◌∙◌, sym}
 use native.Mathlib.Omega.{arith}
 use Rattle.truth.proofs.Forms.{near_step, near_last}
-use mathlib.Core.Path.{◌≡◌}
-use Prim.Native.Nat.{◌≤◌}
 use borrow.Author.Rules.{rules}
-use Rattle.truth.specs.Tables.{near_from, near}
 use Rattle.truth.proofs.cofactor.Goals as goal
 
 pub loop-v-preserved : goal.loop-v-preserved

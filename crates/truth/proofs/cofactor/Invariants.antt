@@ -1,10 +1,6 @@
 -- `cofactor` goes down the variables: what is left to be done is what is to be done. Assumes nothing.
-use mathlib.Core.Path.{◌∙◌, sym}
-use native.Mathlib.Omega.{arith}
-use Rattle.truth.proofs.Forms.{near_step, near_last}
 use mathlib.Core.Path.{◌≡◌}
 use Prim.Native.Nat.{◌≤◌}
-use borrow.Author.Rules.{rules}
 use Rattle.truth.specs.Tables.{near_from, near}
 use Rattle.truth.proofs.cofactor.Given as goal
 

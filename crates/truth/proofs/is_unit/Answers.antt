@@ -2,7 +2,6 @@
 use mathlib.Core.Path.{◌∙◌, sym, ap}
 use Rattle.truth.specs.Tables.{word_unit}
 use Rattle.truth.proofs.Forms.{unit-true, unit-false}
-use borrow.Author.Rules.{rules}
 use Rattle.truth.proofs.is_unit.Goals as goal
 
 pub returns-then-wanted : goal.returns-then-wanted

@@ -1,5 +1,4 @@
 -- `make_by` chooses as the definition does. Assumes nothing.
-use borrow.Author.Rules.{rules}
 use Rattle.truth.proofs.make_by.Goals as goal
 
 pub returns-then-positive : goal.returns-then-positive

@@ -1,6 +1,5 @@
 -- `make_false` is the definition, its masks by `mask_of` and `negate`. Assumes nothing.
 use Rattle.truth.proofs.Forms.{made-false-is}
-use borrow.Author.Rules.{rules}
 use Rattle.truth.proofs.make_false.Goals as goal
 
 pub returns : goal.returns

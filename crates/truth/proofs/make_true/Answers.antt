@@ -1,7 +1,6 @@
 -- `make_true`: the half where the variable is true, copied to the other half. The idea: its mask and its exchange are the definition's.
 -- Assumes nothing.
 use Rattle.truth.proofs.Forms.{made-is}
-use borrow.Author.Rules.{rules}
 use Rattle.truth.proofs.make_true.Goals as goal
 
 pub returns : goal.returns

@@ -1,7 +1,6 @@
 -- `mask_of` is the definition's mask: six cases. Assumes nothing.
 use mathlib.Core.Path.{refl}
 use Rattle.truth.specs.Tables.{mask_of}
-use borrow.Author.Rules.{rules}
 use Rattle.truth.proofs.mask_of.Goals as goal
 
 pub returns : goal.returns

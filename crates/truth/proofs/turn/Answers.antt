@@ -1,6 +1,5 @@
 -- `turn` exchanges the two halves of a variable by two shifts. Assumes nothing.
 use Rattle.truth.proofs.Forms.{stride, stride-less, turned-is}
-use borrow.Author.Rules.{rules}
 use Rattle.truth.proofs.turn.Goals as goal
 
 pub overflow_shr-result : goal.overflow_shr-result

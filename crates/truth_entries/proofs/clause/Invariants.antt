@@ -1,13 +1,8 @@
 -- `clause`: the word of a clause. The idea: what is left of the loop is what is left of the definition's recursion. Assumes nothing.
-use mathlib.Core.Bool.{cond}
-use Rattle.truth.specs.Tables.{ones}
-use borrow.Author.Rules.{rules}
-use mathlib.Core.Path.{◌≡◌, refl, sym, ap, ◌∙◌}
-use native.Mathlib.Omega.{arith}
+use mathlib.Core.Path.{◌≡◌}
 use Prim.Native.Nat.{◌≤◌}
 use Rattle.meaning.specs.Words.{in_word}
 use Rattle.truth_entries.specs.Made.{clause_down, clause_word}
-use Rattle.truth_entries.proofs.Forms.{clause-step, clause-last}
 use Rattle.truth_entries.proofs.clause.Given as goal
 
 abbrev pub invariant-loop-v : goal.invariant-loop-v

@@ -1,10 +1,7 @@
 -- `is_free`: no variable up to v matters. The idea: the loop tests them one after the other, as the definition does. Assumes nothing.
-use borrow.Author.Rules.{rules}
-use mathlib.Core.Path.{◌≡◌, refl, sym, ◌∙◌}
-use native.Mathlib.Omega.{arith}
+use mathlib.Core.Path.{◌≡◌}
 use Prim.Native.Nat.{◌≤◌}
 use Rattle.truth_entries.specs.Made.{free_to}
-use Rattle.truth_entries.proofs.Forms.{free_step, free-not, free-none}
 use Rattle.truth_entries.proofs.is_free.Given as goal
 
 abbrev pub invariant-loop-u : goal.invariant-loop-u

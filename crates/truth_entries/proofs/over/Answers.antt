@@ -1,6 +1,5 @@
 -- `over`: the word of a node over two words. Assumes nothing.
 use Rattle.truth_entries.proofs.Forms.{over-is}
-use borrow.Author.Rules.{rules}
 use Rattle.truth_entries.proofs.over.Goals as goal
 
 pub returns : goal.returns

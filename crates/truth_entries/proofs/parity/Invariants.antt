@@ -1,12 +1,9 @@
 -- `parity`: an odd or even number of a set. The idea: what is left of the loop is what is left of the definition's recursion. Assumes
 -- nothing.
-use borrow.Author.Rules.{rules}
-use mathlib.Core.Path.{◌≡◌, sym, ap, ◌∙◌}
-use native.Mathlib.Omega.{arith}
+use mathlib.Core.Path.{◌≡◌}
 use Prim.Native.Nat.{◌≤◌}
 use Rattle.meaning.specs.Words.{in_word}
 use Rattle.truth_entries.specs.Made.{odd_down, parity_word}
-use Rattle.truth_entries.proofs.Forms.{odd_step, odd-last}
 use Rattle.truth_entries.proofs.parity.Given as goal
 
 abbrev pub invariant-loop-v : goal.invariant-loop-v

@@ -1,7 +1,6 @@
 -- `with_parity`: one variable more in a parity. Assumes nothing.
 use Rattle.truth_entries.specs.Made.{over}
 use mathlib.Core.Path.{sym, ap, ◌∙◌}
-use borrow.Author.Rules.{rules}
 use Rattle.truth_entries.proofs.with_parity.Goals as goal
 
 pub returns-then-in_word : goal.returns-then-in_word

@@ -7,7 +7,7 @@ use Rattle.truth.specs.Tables.{made_true}
 use Rattle.truth_paths.specs.Turns.{PathSays}
 use Rattle.truth_paths.proofs.PathWords.{node-is, low_free, high-free}
 use Rattle.truth_paths.proofs.PathWays.{path-one, path-fails, path-both}
-use Rattle.truth_paths.proofs.PathCode.{six-left, free-next, free-at, few-rounds, same-rounds, both-rounds, small-rounds, true-word}
+use Rattle.truth_paths.proofs.PathCode.{six-left, free-next, free-at, same-rounds, both-rounds, small-rounds, true-word}
 use Rattle.truth_paths.proofs.+paths_from.Goals as goal
 use Rattle.truth_paths.proofs.+paths_from.Goals.{Else-w-eq-ONES}
 

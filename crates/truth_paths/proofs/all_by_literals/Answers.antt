@@ -1,11 +1,8 @@
 -- `all_by_literals` fills a list with the cofactors by literals, place after place. Assumes nothing.
-use borrow.Author.Rules.{rules}
 use native.Mathlib.Omega.{arith}
 use Prim.Native.Nat.{◌-◌}
-use lib.ListN.{length}
-use Rattle.meaning.specs.Words.{in_word}
 use Rattle.truth.specs.Tables.{by_literals}
-use Rattle.truth_rules.proofs.Walks.{Filled, filled_none, filled-one, filled-all}
+use Rattle.truth_rules.proofs.Walks.{filled_none, filled-one, filled-all}
 use Rattle.truth_paths.proofs.all_by_literals.Goals as goal
 
 pub loop-i-init : goal.loop-i-init

@@ -1,7 +1,6 @@
 -- `one_path`: the turn of one path. The idea: cofactors by the path's literals, then UnitProp, are those of the words' diagrams. Assumes
 -- nothing.
 use Rattle.truth_paths.proofs.PathWays.{path-zero}
-use borrow.Author.Rules.{rules}
 use Rattle.truth_paths.proofs.one_path.Goals as goal
 
 pub returns : goal.returns

@@ -1,7 +1,6 @@
 -- `path_line`: all paths of the root's word, from variable 1 on with no literal. Assumes nothing.
 use Rattle.truth_paths.proofs.PathCode.{free-none, line-of-paths}
 use native.Mathlib.Omega.{arith}
-use borrow.Author.Rules.{rules}
 use Rattle.truth_paths.proofs.path_line.Goals as goal
 
 pub paths_from-requires : goal.paths_from-requires

@@ -1,10 +1,7 @@
 -- `all_by` fills a list with the cofactors by a word, place after place. Assumes nothing.
 use native.Mathlib.Omega.{arith}
-use borrow.Author.Rules.{rules}
 use Prim.Native.Nat.{◌-◌}
-use lib.ListN.{length}
-use Rattle.truth.specs.Tables.{near}
-use Rattle.truth_rules.proofs.Walks.{Filled, filled_none, filled-one, filled-all}
+use Rattle.truth_rules.proofs.Walks.{filled_none, filled-one, filled-all}
 use Rattle.truth_rules.proofs.all_by.Goals as goal
 
 pub loop-i-init : goal.loop-i-init

@@ -1,10 +1,8 @@
 -- `all_by` fills a list with the cofactors by a word, place after place. Assumes nothing.
-use native.Mathlib.Omega.{arith}
-use borrow.Author.Rules.{rules}
 use Prim.Native.Nat.{◌-◌}
 use lib.ListN.{length}
 use Rattle.truth.specs.Tables.{near}
-use Rattle.truth_rules.proofs.Walks.{Filled, filled_none, filled-one, filled-all}
+use Rattle.truth_rules.proofs.Walks.{Filled}
 use Rattle.truth_rules.proofs.all_by.Given as goal
 
 abbrev pub invariant-loop-i : goal.invariant-loop-i

@@ -1,10 +1,8 @@
 -- `all_by_units` replaces each word by its cofactor by units, place after place. Assumes nothing.
-use native.Mathlib.Omega.{arith}
-use borrow.Author.Rules.{rules}
 use Prim.Native.Nat.{◌-◌}
-use lib.ListN.{length, length-set}
+use lib.ListN.{length}
 use Rattle.truth.specs.Tables.{by_units_of}
-use Rattle.truth_rules.proofs.Walks.{Changed, changed-none, changed-one, changed-all}
+use Rattle.truth_rules.proofs.Walks.{Changed}
 use Rattle.truth_rules.proofs.all_by_units.Given as goal
 
 abbrev pub invariant-loop-i : goal.invariant-loop-i

@@ -1,13 +1,10 @@
 -- `pr`: the PR line over words. The idea: what is left of the loop is what is left of the turns. Assumes nothing.
-use borrow.Author.Rules.{rules}
-use mathlib.Core.Path.{◌≡◌, refl, sym, ◌∙◌}
+use mathlib.Core.Path.{refl, sym, ◌∙◌}
 use native.Mathlib.Omega.{arith}
 use Prim.Native.Nat.{◌-◌}
-use lib.ListN.{length}
 use borrow.Author.Tests.{not-true, not-false}
 use Rattle.meaning.specs.Words.{in_word}
-use Rattle.truth_rules.specs.Lists.{diagrams_of}
-use Rattle.truth_rules.proofs.LineWords.{TurnsFrom, turns-none, turns-all, turn-fails, turn-passes, pr-says}
+use Rattle.truth_rules.proofs.LineWords.{turns-none, turns-all, turn-fails, turn-passes, pr-says}
 use Rattle.truth_rules.proofs.pr.Goals as goal
 
 pub loop-i-init : goal.loop-i-init

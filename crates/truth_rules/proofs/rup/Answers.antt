@@ -1,7 +1,6 @@
 -- `rup`: the RUP line over words. The idea: negation, cofactors and unit propagation are those of the words' diagrams. Assumes nothing.
 use native.Mathlib.Omega.{arith}
 use Rattle.truth_rules.proofs.LineWords.{rup-says}
-use borrow.Author.Rules.{rules}
 use Rattle.truth_rules.proofs.rup.Goals as goal
 
 pub returns : goal.returns

@@ -2,7 +2,6 @@
 use Rattle.truth_rules.specs.Lists.{diagrams_of}
 use native.Mathlib.Omega.{arith}
 use Rattle.truth_rules.proofs.LineWords.{turn_one, turn-other}
-use borrow.Author.Rules.{rules}
 use Rattle.truth_rules.proofs.turn.Goals as goal
 
 pub returns-then-h : goal.returns-then-h

@@ -1,9 +1,6 @@
 -- `unit_prop`: UnitProp over words. The idea: each round is the definition's, and six rounds are enough. Assumes nothing.
-use borrow.Author.Tests.{not-true, not-false}
-use borrow.Author.Rules.{rules}
-use native.Mathlib.Omega.{arith}
 use Prim.Native.Nat.{◌-◌}
-use Rattle.truth_rules.proofs.Propagation.{Onward, onward-none, at-conflict, at_none, at-round, at_last}
+use Rattle.truth_rules.proofs.Propagation.{Onward}
 use Rattle.truth_rules.proofs.unit_prop.Given as goal
 
 abbrev pub invariant-loop-rounds : goal.invariant-loop-rounds

@@ -1,6 +1,5 @@
 -- The search from the home on stays among the cells. Assumes nothing.
 use Prim.Native.Nat.{◌<◌}
-use borrow.Author.Rules.{rules}
 use Rattle.turn_memo.proofs.cell_of.Given as goal
 
 abbrev pub invariant-loop-left : goal.invariant-loop-left

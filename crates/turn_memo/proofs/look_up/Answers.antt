@@ -1,5 +1,4 @@
 -- The cell found has the node, and then its last digits are told, or it has another. Assumes nothing.
-use borrow.Author.Rules.{rules}
 use Rattle.turn_memo.proofs.Known.{tells-cell, tells_none}
 use Rattle.turn_memo.proofs.look_up.Goals as goal
 

@@ -1,9 +1,8 @@
 -- The walk over the members: those passed have their turns stored, and their rounds are counted. Assumes nothing.
-use Prim.Native.Nat.{◌-◌, ◌*◌, ◌≤◌, ◌<◌}
+use Prim.Native.Nat.{◌-◌}
 use native.Mathlib.Omega.{arith}
-use lib.ListN.{length}
 use borrow.Author.Rules.{rules}
-use Rattle.turn_memo.specs.Turns.{Passes, here}
+use Rattle.turn_memo.specs.Turns.{here}
 use Rattle.turn_memo.proofs.Known.{passes-told}
 use Rattle.turn_memo.proofs.pass_stored.Goals as goal
 

@@ -1,10 +1,7 @@
 -- The walk over the members: those passed have their turns stored, and their rounds are counted. Assumes nothing.
-use Prim.Native.Nat.{◌-◌, ◌*◌, ◌≤◌, ◌<◌}
-use native.Mathlib.Omega.{arith}
+use Prim.Native.Nat.{◌-◌, ◌*◌, ◌≤◌}
 use lib.ListN.{length}
-use borrow.Author.Rules.{rules}
-use Rattle.turn_memo.specs.Turns.{Passes, here}
-use Rattle.turn_memo.proofs.Known.{passes-told}
+use Rattle.turn_memo.specs.Turns.{Passes}
 use Rattle.turn_memo.proofs.pass_stored.Given as goal
 
 abbrev pub invariant-loop-i : goal.invariant-loop-i

@@ -1,6 +1,5 @@
 -- One cell is written. Assumes nothing.
 use native.Mathlib.Omega.{arith}
-use borrow.Author.Rules.{rules}
 use Rattle.turn_memo.proofs.Known.{set-stores}
 use Rattle.turn_memo.proofs.store.Goals as goal
 

@@ -1,14 +1,12 @@
 -- The walk over the list: none of the members passed has a unit, as their top nodes tell. Assumes nothing.
-use mathlib.Core.Path.{◌≡◌, refl, subst}
-use mathlib.Core.List.{List}
+use mathlib.Core.Path.{refl}
 use mathlib.Core.Logic.{inl, ⊎_elim}
-use Prim.Native.Nat.{◌+◌, ◌-◌, ◌<◌}
+use Prim.Native.Nat.{◌+◌, ◌-◌}
 use native.Mathlib.Omega.{arith}
-use lib.ListN.{length, get_or, length-map}
+use lib.ListN.{length-map}
 use Rattle.table.specs.Nodes.{diagram_at}
 use Rattle.table.specs.Lists.{diagrams_of}
 use Rattle.walks.specs.Readable.{nodes_in}
-use Rattle.units.specs.Units.{KnownAt}
 use Rattle.unit_search.proofs.Taking.{behind-next, unitless-skip, taken_here, unitless-here}
 use Rattle.unit_search.proofs.first_at_top.Goals as goal
 

@@ -1,19 +1,9 @@
 -- The walk over the list: none of the members passed has a unit, as their top nodes tell. Assumes nothing.
-use mathlib.Core.Path.{◌≡◌, refl, subst}
-use mathlib.Core.List.{List}
-use mathlib.Core.Logic.{inl, ⊎_elim}
-use Prim.Native.Nat.{◌+◌, ◌-◌, ◌<◌}
-use native.Mathlib.Omega.{arith}
-use lib.ListN.{length, get_or, length-map}
-use borrow.Author.Rules.{rules}
-use borrow.Author.Tests.{eqb-true, eqb-false, not-true, not-false}
-use Rattle.meaning.specs.Diagram.{Diagram}
-use Rattle.table.specs.Nodes.{Node, diagram_at}
+use Prim.Native.Nat.{◌-◌}
+use lib.ListN.{length}
 use Rattle.table.specs.Lists.{diagrams_of}
 use Rattle.walks.specs.Readable.{nodes_in}
-use Rattle.units.specs.Units.{KnownAt}
 use Rattle.unit_search.specs.Units.{UnitlessTo}
-use Rattle.unit_search.proofs.Taking.{behind-next, unitless-skip, taken_here, unitless-here}
 use Rattle.unit_search.proofs.first_at_top.Given as goal
 
 abbrev pub invariant-loop-place : goal.invariant-loop-place

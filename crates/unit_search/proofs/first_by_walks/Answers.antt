@@ -1,10 +1,9 @@
 -- The walk over the list: none of the members passed has a unit, while the memo stays right. Assumes nothing.
 use mathlib.Core.Logic.{⊎_elim}
-use mathlib.Core.Path.{◌≡◌, refl, ◌∙◌}
-use mathlib.Core.List.{List}
-use Prim.Native.Nat.{◌+◌, ◌-◌, ◌<◌}
+use mathlib.Core.Path.{refl, ◌∙◌}
+use Prim.Native.Nat.{◌+◌, ◌-◌}
 use native.Mathlib.Omega.{arith}
-use lib.ListN.{length, length-map}
+use lib.ListN.{length-map}
 use Rattle.table.specs.Nodes.{diagram_at}
 use Rattle.table.specs.Lists.{diagrams_of}
 use Rattle.walks.specs.Readable.{nodes_in}

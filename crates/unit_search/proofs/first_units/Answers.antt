@@ -1,8 +1,7 @@
 -- What top nodes tell is first; where they do not, the walks go on from there. Assumes nothing.
-use mathlib.Core.Path.{◌≡◌, ◌∙◌}
-use mathlib.Core.List.{List}
+use mathlib.Core.Path.{◌∙◌}
 use native.Mathlib.Omega.{arith}
-use lib.ListN.{length, length-map}
+use lib.ListN.{length-map}
 use Rattle.table.specs.Nodes.{diagram_at}
 use Rattle.walks.specs.Readable.{nodes_in}
 use Rattle.unit_search.proofs.Taking.{first-none, first-passed}

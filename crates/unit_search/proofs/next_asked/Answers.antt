@@ -1,6 +1,5 @@
 -- The next place is one of the three ways out: the numbers passed over are before `asked` and between two of the places. Assumes nothing.
 use native.Mathlib.Omega.{arith}
-use borrow.Author.Rules.{rules}
 use Rattle.unit_search.proofs.Taking.{skips-none, skips-place, skips-all}
 use Rattle.unit_search.proofs.next_asked.Goals as goal
 

@@ -12,7 +12,7 @@ use Rattle.walks.specs.Readable.{nodes_in}
 use Rattle.walks.proofs.Here.{Here, here}
 use Rattle.units.specs.Units.{OfVariables, struck_to, past, Struck, Marked, StrikeReady}
 use Rattle.units.proofs.Branches.{past-least, past-most, of-64}
-use Rattle.units.proofs.Struck.{struck-zero, struck-one, marked-less, marks-stored, sides-after, marked-here, struck-node}
+use Rattle.units.proofs.Struck.{struck-zero, struck-one, marked-less, sides-after, marked-here, struck-node}
 use Rattle.units.proofs.Struck.{struck-marked, struck-none, marked-stored}
 use Rattle.units.proofs.+strike.Goals as goal
 
@@ -173,10 +173,12 @@ returns-clause-struck t c =
 pub returns-clause-marked : goal.returns-clause-marked
 returns-clause-marked t c =
     let two : 2 ≤ c.args.f.0 = two _ _ _ _ _ _ _ _ _ c.requires c.if-f-eq0.false c.if-f-eq1.false in
-    let room : c.args.f.0 < length c.strike-c.new.memo = omega (arith, c.requires.room, c.requires.inside, c.requires.readable.within, c.strike-b.auto.memo, c.strike-c.auto.memo) in
+    let room : c.args.f.0 < length c.strike-c.new.memo = omega
+    (arith, c.requires.room, c.requires.inside, c.requires.readable.within, c.strike-b.auto.memo, c.strike-c.auto.memo) in
     marked-stored 64 c.args.vars.now c.args.lows.now c.args.highs.now c.args.count c.requires.readable
     (narrow _ _ _ _ _ _ _ _ _ c.requires c.if-f-eq0.false c.if-f-eq1.false)
-    c.args.f.0 two c.requires.inside c.args.from c.args.alive c.strike-c.result c.strike-c.new.memo c.args.stamp (c.requires.reached two) room
+    c.args.f.0 two c.requires.inside c.args.from c.args.alive c.strike-c.result c.strike-c.new.memo c.args.stamp (c.requires.reached two)
+    room
     (both _ _ _ _ _ _ _ _ _ c.requires c.if-f-eq0.false c.if-f-eq1.false
     c.strike_to-a.result _ _ c.strike_to-a.ensures c.past.ensures c.past-2.ensures
     c.strike-b.result c.strike-c.result c.strike-b.ensures.struck c.strike-c.ensures.struck)

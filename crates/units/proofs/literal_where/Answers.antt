@@ -1,5 +1,4 @@
 -- `literal_where` gives the variable's word where the side is 0. Assumes nothing.
-use borrow.Author.Rules.{rules}
 use borrow.Author.Tests.{eq-eqb, ne_eqb}
 use Rattle.meaning.proofs.Words.{one_shifted}
 use Rattle.units.specs.Units.{literal_where}

@@ -1,7 +1,6 @@
 -- `past` gives the first variable past those struck. Assumes nothing.
 use borrow.Author.Tests.{eq-eqb, ne_eqb}
 use Rattle.units.specs.Units.{past}
-use borrow.Author.Rules.{rules}
 use Rattle.units.proofs.past.Goals as goal
 
 pub returns-then-side-eq0 : goal.returns-then-side-eq0

@@ -1,7 +1,6 @@
 -- `strike_to` strikes both words. Assumes nothing.
 use mathlib.Core.Path.{ap₂}
 use Prim.Native.Nat.{ℕ}
-use borrow.Author.Rules.{rules}
 use Rattle.units.proofs.strike_to.Goals as goal
 
 pub returns : goal.returns

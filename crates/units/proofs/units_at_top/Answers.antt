@@ -1,11 +1,10 @@
 -- What `units_at_top` knows are the node's units. Assumes nothing.
 use mathlib.Core.Path.{sym, ap₂, subst}
 use mathlib.Core.Logic.{inl, inr}
-use Prim.Native.Nat.{ℕ, ◌≤◌}
+use Prim.Native.Nat.{ℕ}
 use native.Mathlib.Omega.{arith}
-use borrow.Author.Rules.{rules}
 use Rattle.walks.specs.Readable.{nodes_in}
-use Rattle.walks.proofs.Here.{Here, here}
+use Rattle.walks.proofs.Here.{here}
 use Rattle.units.specs.Units.{UnitsAt}
 use Rattle.units.proofs.Branches.{of-64}
 use Rattle.units.proofs.Tops.{one_known, top-units}
@@ -19,10 +18,20 @@ returns-then-f-eq1 c =
     subst (λ (k : ℕ). UnitsAt 64 nodes k (record { positive = 0; negative = 0 })) (sym c.if-f-eq1.true) (one_known 64 nodes)
 
 pub literal_where-requires : goal.literal_where-requires
-literal_where-requires c = ((here c.args.vars.now c.args.lows.now c.args.highs.now c.args.count c.requires.0 c.args.f.0 (omega (arith, c.if-f-eq0.false, c.if-f-eq1.false)) c.requires.1).least, (here c.args.vars.now c.args.lows.now c.args.highs.now c.args.count c.requires.0 c.args.f.0 (omega (arith, c.if-f-eq0.false, c.if-f-eq1.false)) c.requires.1).most)
+literal_where-requires c = (
+  (here c.args.vars.now c.args.lows.now c.args.highs.now c.args.count c.requires.0 c.args.f.0
+      (omega (arith, c.if-f-eq0.false, c.if-f-eq1.false)) c.requires.1).least,
+  (here c.args.vars.now c.args.lows.now c.args.highs.now c.args.count c.requires.0 c.args.f.0
+      (omega (arith, c.if-f-eq0.false, c.if-f-eq1.false)) c.requires.1).most,
+)
 
 pub literal_where-requires-then-low-eq1 : goal.literal_where-requires-then-low-eq1
-literal_where-requires-then-low-eq1 c = ((here c.args.vars.now c.args.lows.now c.args.highs.now c.args.count c.requires.0 c.args.f.0 (omega (arith, c.if-f-eq0.false, c.if-f-eq1.false)) c.requires.1).least, (here c.args.vars.now c.args.lows.now c.args.highs.now c.args.count c.requires.0 c.args.f.0 (omega (arith, c.if-f-eq0.false, c.if-f-eq1.false)) c.requires.1).most)
+literal_where-requires-then-low-eq1 c = (
+  (here c.args.vars.now c.args.lows.now c.args.highs.now c.args.count c.requires.0 c.args.f.0
+      (omega (arith, c.if-f-eq0.false, c.if-f-eq1.false)) c.requires.1).least,
+  (here c.args.vars.now c.args.lows.now c.args.highs.now c.args.count c.requires.0 c.args.f.0
+      (omega (arith, c.if-f-eq0.false, c.if-f-eq1.false)) c.requires.1).most,
+)
 
 pub returns-then-low-eq1 : goal.returns-then-low-eq1
 returns-then-low-eq1 c =

@@ -2,7 +2,6 @@
 use mathlib.Core.Path.{sym, subst}
 use Prim.Native.Nat.{ℕ}
 use native.Mathlib.Omega.{arith}
-use borrow.Author.Rules.{rules}
 use Rattle.walks.specs.Readable.{nodes_in}
 use Rattle.walks.proofs.Here.{here, length-in}
 use Rattle.units.specs.Units.{MarksBelow}

@@ -4,12 +4,10 @@ use mathlib.Core.Bool.{Bool, true, false, ◌&&◌}
 use mathlib.Core.List.{List}
 use Prim.Native.Nat.{ℕ, ◌≤◌, ◌<◌}
 use native.Mathlib.Omega.{arith}
-use lib.ListN.{length, get_or}
-use Rattle.table.specs.Nodes.{Node}
 use Rattle.meaning.proofs.Booleans.{and-false}
 use Rattle.walks.specs.declared.SidesUnder.{SidesUnder}
-use Rattle.walks.specs.Readable.{Readable, Roomy, nodes_in}
-use Rattle.walks.specs.Constant.{one_at, sides_under, OneMemo}
+use Rattle.walks.specs.Readable.{Readable, nodes_in}
+use Rattle.walks.specs.Constant.{one_at, sides_under}
 use Rattle.walks.proofs.Here.{length-in}
 use Rattle.walks.proofs.Constant.{constant-zero, constant-one, constant-known, constant-stored, side-less, constant-node}
 use Rattle.walks.proofs.+one_from.Goals as goal

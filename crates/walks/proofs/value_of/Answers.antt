@@ -1,9 +1,6 @@
 -- `value_of` gives the node's value. Assumes nothing.
-use mathlib.Core.Path.{◌≡◌, sym, ◌∙◌}
-use mathlib.Core.List.{List}
-use Prim.Native.Nat.{ℕ, ◌≤◌, ◌<◌}
+use mathlib.Core.Path.{sym, ◌∙◌}
 use native.Mathlib.Omega.{arith}
-use Rattle.walks.specs.Readable.{Readable, nodes_in, value_under}
 use Rattle.walks.proofs.Here.{Here, here}
 use Rattle.walks.proofs.Values.{value-high, value_low, value-end}
 use Rattle.walks.proofs.value_of.Goals as goal

@@ -5,10 +5,8 @@ use native.Mathlib.Omega.{arith}
 use lib.Pow.{pow_pos}
 use Rattle.words.specs.Sets.{below_word}
 use Rattle.meaning.proofs.Words.{one_shifted}
-use borrow.Author.Rules.{rules}
 use Rattle.words.proofs.below.Reads as reads
 use Rattle.words.proofs.below.Lts as lts
-use Rattle.words.proofs.below.Tie as tie
 use Rattle.words.proofs.below.Goals as goal
 
 shifted : (c : lts.Else1 reads.Pre reads.Post) → 1 * 2 ^ (c.args.v - 1) % 18446744073709551616 ≡ 2 ^ (c.args.v - 1)

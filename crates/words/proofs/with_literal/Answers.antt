@@ -2,7 +2,6 @@
 use mathlib.Core.Path.{◌≡◌}
 use mathlib.Core.Bool.{Bool, true, false}
 use Prim.Native.Nat.{ℕ}
-use borrow.Author.Rules.{rules}
 use Rattle.words.specs.declared.Literals.{Literals}
 use Rattle.words.specs.Sets.{with_variable, with_literal}
 use Rattle.words.proofs.with_literal.Goals as goal

@@ -1,5 +1,4 @@
 -- `with_variable` sets the variable's bit. Assumes nothing.
-use borrow.Author.Rules.{rules}
 use Rattle.meaning.proofs.Words.{one_shifted}
 use Rattle.words.proofs.with_variable.Goals as goal
 

@@ -3,7 +3,6 @@ use mathlib.Core.Path.{ap₂}
 use Prim.Native.Nat.{ℕ, ◌-◌}
 use lib.Bits.{bit_and, bit_or}
 use Rattle.words.specs.Sets.{without}
-use borrow.Author.Rules.{rules}
 use Rattle.words.proofs.without.Goals as goal
 
 pub returns : goal.returns

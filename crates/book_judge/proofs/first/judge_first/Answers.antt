@@ -5,7 +5,6 @@ use Rattle.shares.specs.Books.{BookLists}
 use Rattle.book_parts.specs.Firsts.{verdict_by, ReadBy}
 use Rattle.book_line.specs.Says.{lists_made}
 use Rattle.book_judge.proofs.Formulas.{first-unfit, formula-unread, first-shareable, first-give-ready, formula-read}
-use borrow.Author.Rules.{rules}
 use Rattle.book_judge.proofs.first.judge_first.Goals as goal
 
 pub returns-then-vars-count : goal.returns-then-vars-count
@@ -32,11 +31,13 @@ give-after-requires c =
     c.read_formula.new.links c.read_formula.new.members) g c.read_formula.ensures.read_by in record {
       fact = first-shareable shared lists c.args.b empty c.args.found.now c.args.strikes.now c.requires
           c.args.bytes.now c.args.scratch.now c.if-vars-count.false _ _
-          (table_of c.read_formula.new.vars c.read_formula.new.lows c.read_formula.new.highs c.read_formula.new.heads c.read_formula.new.links _)
+          (table_of c.read_formula.new.vars c.read_formula.new.lows c.read_formula.new.highs c.read_formula.new.heads
+          c.read_formula.new.links _)
           c.read_formula.new.members c.read_formula.auto.vars B.0 c.read_formula.auto.members;
       give_ready = first-give-ready shared lists c.args.b empty c.args.found.now c.args.strikes.now c.requires
           c.args.bytes.now c.args.scratch.now c.if-vars-count.false _ _
-          (table_of c.read_formula.new.vars c.read_formula.new.lows c.read_formula.new.highs c.read_formula.new.heads c.read_formula.new.links _)
+          (table_of c.read_formula.new.vars c.read_formula.new.lows c.read_formula.new.highs c.read_formula.new.heads
+          c.read_formula.new.links _)
           c.read_formula.new.members c.read_formula.auto.vars B.0 c.read_formula.auto.members;
     }
 
@@ -51,8 +52,10 @@ returns-in-Refused c =
     let g = c.in-Refused.is in
     formula-unread shared lists c.args.b empty c.args.found.now c.args.strikes.now c.requires c.args.bytes.now
     c.args.scratch.now c.if-vars-count.false _ _ _
-    (c.read_formula.ensures.formula_value ∙ ap (verdict_by c.read_formula.new.vars c.read_formula.new.lows c.read_formula.new.highs c.read_formula.new.heads c.read_formula.new.links
-    c.read_formula.new.members) g) _ _ _ c.keep.ensures.own_after c.keep.ensures.members_after c.keep.ensures.struck_after _ c.unread.ensures _
+    (c.read_formula.ensures.formula_value ∙ ap (verdict_by c.read_formula.new.vars c.read_formula.new.lows c.read_formula.new.highs
+    c.read_formula.new.heads c.read_formula.new.links
+    c.read_formula.new.members) g) _ _ _ c.keep.ensures.own_after c.keep.ensures.members_after c.keep.ensures.struck_after _
+    c.unread.ensures _
     c.said_by.ensures _ c.clear_numbers.ensures
 
 pub returns-in-Made : goal.returns-in-Made
@@ -70,6 +73,7 @@ returns-in-Made c =
     c.args.scratch.now c.if-vars-count.false _ _
     (table_of c.read_formula.new.vars c.read_formula.new.lows c.read_formula.new.highs c.read_formula.new.heads c.read_formula.new.links _)
     c.read_formula.new.members c.read_formula.auto.vars B.0 c.read_formula.auto.members
-    (c.read_formula.ensures.formula_value ∙ ap (verdict_by c.read_formula.new.vars c.read_formula.new.lows c.read_formula.new.highs c.read_formula.new.heads c.read_formula.new.links
+    (c.read_formula.ensures.formula_value ∙ ap (verdict_by c.read_formula.new.vars c.read_formula.new.lows c.read_formula.new.highs
+    c.read_formula.new.heads c.read_formula.new.links
     c.read_formula.new.members) g) B.1 _ _ _ _ c.give-after.ensures _ c.read.ensures _
     c.said_by-in-Made.ensures _ c.clear_numbers.ensures

@@ -7,7 +7,6 @@ use Rattle.state.specs.States.{Lent, lent_of}
 use Rattle.shares.specs.Books.{BookLists}
 use Rattle.book_line.specs.Says.{lists_made}
 use Rattle.book_judge.proofs.Preparing.{few, passed, copyable, short-is, all-is, remade}
-use borrow.Author.Rules.{rules}
 use Rattle.book_judge.proofs.later.judge_later.Goals as goal
 
 pub overflow_add-b : goal.overflow_add-b
@@ -76,7 +75,11 @@ judge_remade-requires c =
           c.remake-a.new.known c.remake-a.ensures.fact.0 c.if-a.false
           c.remake-a.new.found c.remake-a.new.strikes c.remake-a.ensures.fact.1
           c.remake-a.auto.found c.remake-a.ensures.strikes_after;
-      marks_value = (c.requires.marks_value.0 ∙ ap unmarked (sym c.remake-a.auto.ownvars), omega (arith, c.requires.marks_value.1, c.remake-a.auto.ownvars), c.requires.marks_value.2);
+      marks_value = (
+        c.requires.marks_value.0 ∙ ap unmarked (sym c.remake-a.auto.ownvars),
+        omega (arith, c.requires.marks_value.1, c.remake-a.auto.ownvars),
+        c.requires.marks_value.2,
+      );
     }
 
 pub returns : goal.returns

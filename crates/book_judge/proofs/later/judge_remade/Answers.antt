@@ -7,7 +7,6 @@ use Rattle.state.specs.States.{Lent, lent_of, Held}
 use Rattle.shares.specs.Books.{BookLists}
 use Rattle.book_line.specs.Says.{lists_made, LineReady}
 use Rattle.book_judge.proofs.Remaking.{passed, held, line-ready, unfit-is, bound-is, line-ran}
-use borrow.Author.Rules.{rules}
 use Rattle.book_judge.proofs.later.judge_remade.Goals as goal
 
 pub returns-then-vars-count : goal.returns-then-vars-count

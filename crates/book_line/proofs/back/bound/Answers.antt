@@ -3,7 +3,6 @@ use mathlib.Core.Path.{ap}
 use Prim.Native.Nat.{ℕ}
 use Rattle.shares.specs.declared.Book.{Book}
 use Rattle.shares.specs.declared.Stage.TheVariants.{Bound}
-use borrow.Author.Rules.{rules}
 use Rattle.book_line.proofs.back.bound.Goals as goal
 
 pub returns : goal.returns

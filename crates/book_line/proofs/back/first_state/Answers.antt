@@ -4,7 +4,6 @@ use Prim.Native.Nat.{ℕ, ◌+◌}
 use Rattle.words.specs.Sets.{no_literals}
 use Rattle.state.specs.declared.State.{State}
 use Rattle.shares.specs.declared.Book.{Book}
-use borrow.Author.Rules.{rules}
 use Rattle.book_line.proofs.back.first_state.Goals as goal
 
 pub returns : goal.returns

@@ -1,7 +1,6 @@
 -- `keep`: the parts one after the other. Assumes nothing.
 use mathlib.Core.Path.{ap₂, ◌∙◌}
 use Rattle.shares.specs.Books.{padded}
-use borrow.Author.Rules.{rules}
 use Rattle.book_line.proofs.back.keep.Goals as goal
 
 pub returns : goal.returns

@@ -4,7 +4,6 @@ use Prim.Native.Nat.{ℕ, ◌+◌}
 use Rattle.state.specs.declared.State.{State}
 use Rattle.shares.specs.declared.Book.{Book}
 use Rattle.shares.specs.declared.Stage.TheVariants.{Lines}
-use borrow.Author.Rules.{rules}
 use Rattle.book_line.proofs.back.with_line.Goals as goal
 
 pub returns : goal.returns

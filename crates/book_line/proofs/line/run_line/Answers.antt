@@ -1,11 +1,10 @@
 -- `run_line`: the records, then sharing or what a refused call leaves (Ending). Assumes nothing.
 use mathlib.Core.Path.{ap, ◌∙◌, subst}
 use native.Mathlib.Omega.{arith}
-use Rattle.state.specs.States.{Lent, lent_of}
+use Rattle.state.specs.States.{lent_of}
 use Rattle.book_parts.specs.Lines.{ending_of, EndsHeld}
 use Rattle.book_line.proofs.Tests.{tested, few}
 use Rattle.book_line.proofs.Ending.{refused-is, rounds-fit, shareable, give-ready, accepted-is}
-use borrow.Author.Rules.{rules}
 use Rattle.book_line.proofs.line.run_line.Goals as goal
 
 pub read_line-requires : goal.read_line-requires
@@ -29,13 +28,20 @@ pub give-made-requires : goal.give-made-requires
 give-made-requires c =
     let g = c.in-Taken.is in
     let m = c.args.first.members in
-    let e = c.read_line.ensures.fact.0 ∙ ap (ending_of (lent_of c.read_line.new.vars c.read_line.new.lows c.read_line.new.highs c.read_line.new.heads c.read_line.new.links c.read_line.new.members c.read_line.new.scratch
+    let e = c.read_line.ensures.fact.0 ∙ ap (ending_of
+    (lent_of c.read_line.new.vars c.read_line.new.lows c.read_line.new.highs c.read_line.new.heads c.read_line.new.links
+    c.read_line.new.members c.read_line.new.scratch
     c.read_line.new.struck) m) g in
-    let H = subst (EndsHeld (lent_of c.read_line.new.vars c.read_line.new.lows c.read_line.new.highs c.read_line.new.heads c.read_line.new.links c.read_line.new.members c.read_line.new.scratch
+    let H = subst (EndsHeld (lent_of c.read_line.new.vars c.read_line.new.lows c.read_line.new.highs c.read_line.new.heads
+    c.read_line.new.links c.read_line.new.members c.read_line.new.scratch
     c.read_line.new.struck) m) g c.read_line.ensures.fact.1 in record {
-      fact = shareable _ _ _ _ _ c.requires.line_ready c.requires.fact.0 c.args.bytes.now c.args.scratch.now (lent_of c.read_line.new.vars c.read_line.new.lows c.read_line.new.highs c.read_line.new.heads c.read_line.new.links c.read_line.new.members c.read_line.new.scratch
+      fact = shareable _ _ _ _ _ c.requires.line_ready c.requires.fact.0 c.args.bytes.now c.args.scratch.now
+          (lent_of c.read_line.new.vars c.read_line.new.lows c.read_line.new.highs c.read_line.new.heads c.read_line.new.links
+          c.read_line.new.members c.read_line.new.scratch
           c.read_line.new.struck) _ e H;
-      give_ready = give-ready _ _ _ _ _ c.requires.line_ready c.requires.fact.0 c.args.bytes.now c.args.scratch.now (lent_of c.read_line.new.vars c.read_line.new.lows c.read_line.new.highs c.read_line.new.heads c.read_line.new.links c.read_line.new.members c.read_line.new.scratch
+      give_ready = give-ready _ _ _ _ _ c.requires.line_ready c.requires.fact.0 c.args.bytes.now c.args.scratch.now
+          (lent_of c.read_line.new.vars c.read_line.new.lows c.read_line.new.highs c.read_line.new.heads c.read_line.new.links
+          c.read_line.new.members c.read_line.new.scratch
           c.read_line.new.struck) _ e H;
     }
 
@@ -43,11 +49,16 @@ pub with_line-requires : goal.with_line-requires
 with_line-requires c =
     let g = c.in-Taken.is in
     let m = c.args.first.members in
-    let e = c.read_line.ensures.fact.0 ∙ ap (ending_of (lent_of c.read_line.new.vars c.read_line.new.lows c.read_line.new.highs c.read_line.new.heads c.read_line.new.links c.read_line.new.members c.read_line.new.scratch
+    let e = c.read_line.ensures.fact.0 ∙ ap (ending_of
+    (lent_of c.read_line.new.vars c.read_line.new.lows c.read_line.new.highs c.read_line.new.heads c.read_line.new.links
+    c.read_line.new.members c.read_line.new.scratch
     c.read_line.new.struck) m) g in
-    let H = subst (EndsHeld (lent_of c.read_line.new.vars c.read_line.new.lows c.read_line.new.highs c.read_line.new.heads c.read_line.new.links c.read_line.new.members c.read_line.new.scratch
+    let H = subst (EndsHeld (lent_of c.read_line.new.vars c.read_line.new.lows c.read_line.new.highs c.read_line.new.heads
+    c.read_line.new.links c.read_line.new.members c.read_line.new.scratch
     c.read_line.new.struck) m) g c.read_line.ensures.fact.1 in
-    rounds-fit _ _ _ _ _ c.requires.line_ready c.requires.fact.0 c.args.bytes.now c.args.scratch.now (lent_of c.read_line.new.vars c.read_line.new.lows c.read_line.new.highs c.read_line.new.heads c.read_line.new.links c.read_line.new.members c.read_line.new.scratch
+    rounds-fit _ _ _ _ _ c.requires.line_ready c.requires.fact.0 c.args.bytes.now c.args.scratch.now
+    (lent_of c.read_line.new.vars c.read_line.new.lows c.read_line.new.highs c.read_line.new.heads c.read_line.new.links
+    c.read_line.new.members c.read_line.new.scratch
     c.read_line.new.struck) _ e H
 
 pub shape_of-ownvars-in-Ended : goal.shape_of-ownvars-in-Ended
@@ -106,9 +117,13 @@ pub returns-in-Ended : goal.returns-in-Ended
 returns-in-Ended c =
     let g = c.in-Ended.is in
     let m = c.args.first.members in
-    let e = c.read_line.ensures.fact.0 ∙ ap (ending_of (lent_of c.read_line.new.vars c.read_line.new.lows c.read_line.new.highs c.read_line.new.heads c.read_line.new.links c.read_line.new.members c.read_line.new.scratch
+    let e = c.read_line.ensures.fact.0 ∙ ap (ending_of
+    (lent_of c.read_line.new.vars c.read_line.new.lows c.read_line.new.highs c.read_line.new.heads c.read_line.new.links
+    c.read_line.new.members c.read_line.new.scratch
     c.read_line.new.struck) m) g in
-    refused-is _ _ _ _ _ c.requires.line_ready c.requires.fact.0 c.args.bytes.now c.args.scratch.now _ _ _ (lent_of c.read_line.new.vars c.read_line.new.lows c.read_line.new.highs c.read_line.new.heads c.read_line.new.links c.read_line.new.members c.read_line.new.scratch
+    refused-is _ _ _ _ _ c.requires.line_ready c.requires.fact.0 c.args.bytes.now c.args.scratch.now _ _ _
+    (lent_of c.read_line.new.vars c.read_line.new.lows c.read_line.new.highs c.read_line.new.heads c.read_line.new.links
+    c.read_line.new.members c.read_line.new.scratch
     c.read_line.new.struck).struck e _ _ _
     c.keep.ensures.own_after c.keep.ensures.members_after c.keep.ensures.struck_after _ c.bound.ensures _ c.said_by.ensures
 
@@ -188,10 +203,15 @@ pub returns-in-Taken : goal.returns-in-Taken
 returns-in-Taken c =
     let g = c.in-Taken.is in
     let m = c.args.first.members in
-    let e = c.read_line.ensures.fact.0 ∙ ap (ending_of (lent_of c.read_line.new.vars c.read_line.new.lows c.read_line.new.highs c.read_line.new.heads c.read_line.new.links c.read_line.new.members c.read_line.new.scratch
+    let e = c.read_line.ensures.fact.0 ∙ ap (ending_of
+    (lent_of c.read_line.new.vars c.read_line.new.lows c.read_line.new.highs c.read_line.new.heads c.read_line.new.links
+    c.read_line.new.members c.read_line.new.scratch
     c.read_line.new.struck) m) g in
-    let H = subst (EndsHeld (lent_of c.read_line.new.vars c.read_line.new.lows c.read_line.new.highs c.read_line.new.heads c.read_line.new.links c.read_line.new.members c.read_line.new.scratch
+    let H = subst (EndsHeld (lent_of c.read_line.new.vars c.read_line.new.lows c.read_line.new.highs c.read_line.new.heads
+    c.read_line.new.links c.read_line.new.members c.read_line.new.scratch
     c.read_line.new.struck) m) g c.read_line.ensures.fact.1 in
-    accepted-is _ _ _ _ _ c.requires.line_ready c.requires.fact.0 c.args.bytes.now c.args.scratch.now (lent_of c.read_line.new.vars c.read_line.new.lows c.read_line.new.highs c.read_line.new.heads c.read_line.new.links c.read_line.new.members c.read_line.new.scratch
+    accepted-is _ _ _ _ _ c.requires.line_ready c.requires.fact.0 c.args.bytes.now c.args.scratch.now
+    (lent_of c.read_line.new.vars c.read_line.new.lows c.read_line.new.highs c.read_line.new.heads c.read_line.new.links
+    c.read_line.new.members c.read_line.new.scratch
     c.read_line.new.struck) _ e H _ _ _ _ c.give-made.ensures _
     c.with_line.ensures _ c.said_by-in-Taken.ensures

@@ -7,7 +7,6 @@ use Rattle.commands.specs.Commands.{in_records}
 use Rattle.verdict.specs.Run.{variables_of}
 use Rattle.formula.specs.Formula.{said_from, Begins}
 use Rattle.book_parts.proofs.Making.{header_refused, header-proper, begun-said}
-use borrow.Author.Rules.{rules}
 use Rattle.book_parts.proofs.first.read_formula.Goals as goal
 
 pub read_header-requires : goal.read_header-requires
@@ -57,7 +56,8 @@ returns-in-Refused c =
     let e =
     (sym c.read_header.ensures ∙ c.in-Proper.is) in record {
       formula_value = header-proper (length c.args.vars.now) _ _ _ _ e ∙ c.read_clauses.ensures.from_value in_records []
-          ∙ ap (said_from in_records _ [] c.read_clauses.new.vars c.read_clauses.new.lows c.read_clauses.new.highs c.read_clauses.new.heads c.read_clauses.new.links c.read_clauses.new.members)
+          ∙ ap (said_from in_records _ [] c.read_clauses.new.vars c.read_clauses.new.lows c.read_clauses.new.highs c.read_clauses.new.heads
+          c.read_clauses.new.links c.read_clauses.new.members)
           c.in-Refused.is;
       read_by = tt;
     }
@@ -91,9 +91,11 @@ returns-in-Begun c =
     let e =
     (sym c.read_header.ensures ∙ c.in-Proper.is) in let q =
     c.in-Begun.is in let B = subst
-    (Begins _ c.read_clauses.new.vars c.read_clauses.new.lows c.read_clauses.new.highs c.read_clauses.new.heads c.read_clauses.new.links c.read_clauses.new.members) q c.read_clauses.ensures.begins in record {
+    (Begins _ c.read_clauses.new.vars c.read_clauses.new.lows c.read_clauses.new.highs c.read_clauses.new.heads c.read_clauses.new.links
+    c.read_clauses.new.members) q c.read_clauses.ensures.begins in record {
       formula_value = header-proper (length c.args.vars.now) _ _ _ _ e ∙ c.read_clauses.ensures.from_value in_records []
-          ∙ ap (said_from in_records _ [] c.read_clauses.new.vars c.read_clauses.new.lows c.read_clauses.new.highs c.read_clauses.new.heads c.read_clauses.new.links c.read_clauses.new.members) q
+          ∙ ap (said_from in_records _ [] c.read_clauses.new.vars c.read_clauses.new.lows c.read_clauses.new.highs c.read_clauses.new.heads
+          c.read_clauses.new.links c.read_clauses.new.members) q
           ∙ begun-said _ _ _ B.good _;
       read_by = (B, sym (ap variables_of e));
     }

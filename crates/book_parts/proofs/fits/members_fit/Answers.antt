@@ -1,8 +1,7 @@
 -- `members_fit`: at the loop's head what is to be said is what is left to be said (Fitting). Assumes nothing.
 use Prim.Native.Nat.{◌-◌}
 use native.Mathlib.Omega.{arith}
-use Rattle.book_parts.proofs.Fitting.{Fitting, fitting-start, fitting-end, member-beyond, mark-beyond, fitting-next}
-use borrow.Author.Rules.{rules}
+use Rattle.book_parts.proofs.Fitting.{fitting-start, fitting-end, member-beyond, mark-beyond, fitting-next}
 use Rattle.book_parts.proofs.fits.members_fit.Goals as goal
 
 pub loop-i-init : goal.loop-i-init

@@ -1,8 +1,6 @@
 -- `members_fit`: at the loop's head what is to be said is what is left to be said (Fitting). Assumes nothing.
 use Prim.Native.Nat.{◌-◌}
-use native.Mathlib.Omega.{arith}
-use Rattle.book_parts.proofs.Fitting.{Fitting, fitting-start, fitting-end, member-beyond, mark-beyond, fitting-next}
-use borrow.Author.Rules.{rules}
+use Rattle.book_parts.proofs.Fitting.{Fitting}
 use Rattle.book_parts.proofs.fits.members_fit.Given as goal
 
 abbrev pub invariant-loop-i : goal.invariant-loop-i

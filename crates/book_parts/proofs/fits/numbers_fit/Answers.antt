@@ -1,7 +1,6 @@
 -- `numbers_fit`: each test in the order of the definition (Fitting). Assumes nothing.
 use Rattle.book_parts.proofs.Fitting.{share-beyond, variables-beyond, clauses-beyond, lines-beyond, rounds-beyond, charge-beyond}
 use Rattle.book_parts.proofs.Fitting.{peak-last}
-use borrow.Author.Rules.{rules}
 use Rattle.book_parts.proofs.fits.numbers_fit.Goals as goal
 
 pub returns-then-size-b : goal.returns-then-size-b

@@ -2,7 +2,6 @@
 use mathlib.Core.Path.{sym, ◌∙◌}
 use Rattle.state.specs.States.{lent_of}
 use Rattle.book_parts.proofs.Reading.{beyond-stops, line-stops, record-steps}
-use borrow.Author.Rules.{rules}
 use Rattle.book_parts.proofs.line.book_step.Goals as goal
 
 pub returns-then-is_beyond : goal.returns-then-is_beyond
@@ -68,7 +67,8 @@ returns c =
     sym c.is_beyond.ensures ∙ c.if-is_beyond.false in record {
       fact = record-steps _ _ _ _ c.requires.0 _ _ q
           (sym c.is_followed_line.ensures ∙ c.if-is_followed_line.false)
-          (lent_of c.record_step.new.vars c.record_step.new.lows c.record_step.new.highs c.record_step.new.heads c.record_step.new.links c.record_step.new.members c.record_step.new.scratch
+          (lent_of c.record_step.new.vars c.record_step.new.lows c.record_step.new.highs c.record_step.new.heads c.record_step.new.links
+          c.record_step.new.members c.record_step.new.scratch
           c.record_step.new.struck) _ c.record_step.ensures.fact;
       marks_after = c.record_step.ensures.marks_after;
     }

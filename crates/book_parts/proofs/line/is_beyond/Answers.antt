@@ -2,7 +2,6 @@
 use mathlib.Core.Path.{◌∙◌}
 use native.Mathlib.Omega.{arith}
 use borrow.Author.Tests.{lt-ltb, le-ltb}
-use borrow.Author.Rules.{rules}
 use Rattle.book_parts.proofs.line.is_beyond.Goals as goal
 
 pub returns-then-count-ge4096 : goal.returns-then-count-ge4096

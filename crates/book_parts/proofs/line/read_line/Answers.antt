@@ -1,17 +1,14 @@
 -- `read_line` says what the definition says of the call's records: at the loop's head what is to be said is what is left to be said
 -- (Reading). Assumes nothing.
-use mathlib.Core.Path.{◌≡◌, refl, sym, ap, ◌∙◌}
-use Prim.Native.Nat.{ℕ, suc, ◌+◌, ◌-◌, ◌^◌, ◌≤◌, ◌<◌}
+use mathlib.Core.Path.{refl, sym, ap, ◌∙◌}
+use Prim.Native.Nat.{◌+◌, ◌-◌}
 use native.Mathlib.Omega.{arith}
-use lib.ListN.{length}
 use Rattle.conflict.specs.Marks.{unmarked}
 use Rattle.records.specs.Records.{length_of}
-use Rattle.state.specs.States.{Lent, lent_of, state_of}
-use Rattle.shares.specs.Alone.{line_call}
-use Rattle.book_parts.proofs.Reading.{Reading, reading-start, reading-asks, reading-near, reading-stop, reading-spent, reading-taken}
+use Rattle.state.specs.States.{lent_of}
+use Rattle.book_parts.proofs.Reading.{reading-start, reading-asks, reading-near, reading-stop, reading-spent, reading-taken}
 use Rattle.book_parts.proofs.Reading.{reading-goes, reading-next}
 use Rattle.commands.proofs.Stream.{record-short}
-use borrow.Author.Rules.{rules}
 use Rattle.book_parts.proofs.line.read_line.Goals as goal
 
 pub loop-at-init : goal.loop-at-init
@@ -42,7 +39,9 @@ book_step-requires c =
 pub overflow_add-result : goal.overflow_add-result
 overflow_add-result c =
     let G = c.loop-at.invariant.0 in let near = reading-near _ _ _ _ _ _ _ _ _ _ G _ c.record_from-r.ensures _
-    (ap (λ n. c.loop-at.at + n) (c.record_length.ensures ∙ ap length_of c.record_from-r.ensures)) _ refl (lent_of c.book_step.new.vars c.book_step.new.lows c.book_step.new.highs c.book_step.new.heads c.book_step.new.links c.book_step.new.members c.book_step.new.scratch
+    (ap (λ n. c.loop-at.at + n) (c.record_length.ensures ∙ ap length_of c.record_from-r.ensures)) _ refl
+    (lent_of c.book_step.new.vars c.book_step.new.lows c.book_step.new.highs c.book_step.new.heads c.book_step.new.links
+    c.book_step.new.members c.book_step.new.scratch
     c.book_step.new.struck) _
     c.book_step.ensures.fact _ _ c.in-Stop.is in omega (arith, c.loop-at-test.true, near)
 
@@ -90,7 +89,9 @@ pub returns-in-Stop : goal.returns-in-Stop
 returns-in-Stop c =
     let G = c.loop-at.invariant.0 in record {
       fact = reading-stop _ _ _ _ _ _ _ _ _ _ G _ c.record_from-r.ensures _
-          (ap (λ n. c.loop-at.at + n) (c.record_length.ensures ∙ ap length_of c.record_from-r.ensures)) _ refl (lent_of c.book_step.new.vars c.book_step.new.lows c.book_step.new.highs c.book_step.new.heads c.book_step.new.links c.book_step.new.members c.book_step.new.scratch
+          (ap (λ n. c.loop-at.at + n) (c.record_length.ensures ∙ ap length_of c.record_from-r.ensures)) _ refl
+          (lent_of c.book_step.new.vars c.book_step.new.lows c.book_step.new.highs c.book_step.new.heads c.book_step.new.links
+          c.book_step.new.members c.book_step.new.scratch
           c.book_step.new.struck) _
           c.book_step.ensures.fact _ _ c.in-Stop.is;
       marks_after = c.book_step.ensures.marks_after ∙ ap unmarked c.loop-at.invariant.1;
@@ -140,7 +141,9 @@ pub returns-in-Spent : goal.returns-in-Spent
 returns-in-Spent c =
     let G = c.loop-at.invariant.0 in record {
       fact = reading-spent _ _ _ _ _ _ _ _ _ _ G _ c.record_from-r.ensures _
-          (ap (λ n. c.loop-at.at + n) (c.record_length.ensures ∙ ap length_of c.record_from-r.ensures)) _ refl (lent_of c.book_step.new.vars c.book_step.new.lows c.book_step.new.highs c.book_step.new.heads c.book_step.new.links c.book_step.new.members c.book_step.new.scratch
+          (ap (λ n. c.loop-at.at + n) (c.record_length.ensures ∙ ap length_of c.record_from-r.ensures)) _ refl
+          (lent_of c.book_step.new.vars c.book_step.new.lows c.book_step.new.highs c.book_step.new.heads c.book_step.new.links
+          c.book_step.new.members c.book_step.new.scratch
           c.book_step.new.struck) _
           c.book_step.ensures.fact _ _ c.in-Spent.is;
       marks_after = c.book_step.ensures.marks_after
@@ -195,7 +198,9 @@ pub returns-then-is_line : goal.returns-then-is_line
 returns-then-is_line c =
     let G = c.loop-at.invariant.0 in record {
       fact = reading-taken _ _ _ _ _ _ _ _ _ _ G _ c.record_from-r.ensures _
-          (ap (λ n. c.loop-at.at + n) (c.record_length.ensures ∙ ap length_of c.record_from-r.ensures)) _ refl (lent_of c.book_step.new.vars c.book_step.new.lows c.book_step.new.highs c.book_step.new.heads c.book_step.new.links c.book_step.new.members c.book_step.new.scratch
+          (ap (λ n. c.loop-at.at + n) (c.record_length.ensures ∙ ap length_of c.record_from-r.ensures)) _ refl
+          (lent_of c.book_step.new.vars c.book_step.new.lows c.book_step.new.highs c.book_step.new.heads c.book_step.new.links
+          c.book_step.new.members c.book_step.new.scratch
           c.book_step.new.struck) _
           c.book_step.ensures.fact _ c.in-Next.is (sym c.is_line.ensures ∙ c.if-is_line.true);
       marks_after = c.book_step.ensures.marks_after ∙ ap unmarked c.loop-at.invariant.1;
@@ -204,7 +209,9 @@ returns-then-is_line c =
 pub loop-at-smaller : goal.loop-at-smaller
 loop-at-smaller c =
     let G = c.loop-at.invariant.0 in let on = reading-goes _ _ _ _ _ _ _ _ _ _ G _ c.record_from-r.ensures _
-    (ap (λ n. c.loop-at.at + n) (c.record_length.ensures ∙ ap length_of c.record_from-r.ensures)) _ refl (lent_of c.book_step.new.vars c.book_step.new.lows c.book_step.new.highs c.book_step.new.heads c.book_step.new.links c.book_step.new.members c.book_step.new.scratch
+    (ap (λ n. c.loop-at.at + n) (c.record_length.ensures ∙ ap length_of c.record_from-r.ensures)) _ refl
+    (lent_of c.book_step.new.vars c.book_step.new.lows c.book_step.new.highs c.book_step.new.heads c.book_step.new.links
+    c.book_step.new.members c.book_step.new.scratch
     c.book_step.new.struck) _
     c.book_step.ensures.fact _ c.in-Next.is in omega (arith, on.0, on.1)
 
@@ -212,7 +219,9 @@ pub loop-at-preserved : goal.loop-at-preserved
 loop-at-preserved c =
     let G = c.loop-at.invariant.0 in (
       reading-next _ _ _ _ _ _ _ _ _ _ G _ c.record_from-r.ensures _
-          (ap (λ n. c.loop-at.at + n) (c.record_length.ensures ∙ ap length_of c.record_from-r.ensures)) _ refl (lent_of c.book_step.new.vars c.book_step.new.lows c.book_step.new.highs c.book_step.new.heads c.book_step.new.links c.book_step.new.members c.book_step.new.scratch
+          (ap (λ n. c.loop-at.at + n) (c.record_length.ensures ∙ ap length_of c.record_from-r.ensures)) _ refl
+          (lent_of c.book_step.new.vars c.book_step.new.lows c.book_step.new.highs c.book_step.new.heads c.book_step.new.links
+          c.book_step.new.members c.book_step.new.scratch
           c.book_step.new.struck) _
           c.book_step.ensures.fact _ c.in-Next.is (sym c.is_line.ensures ∙ c.if-is_line.false) _ _ c.book_step.auto.vars
           c.book_step.ensures.marks_after c.book_step.auto.memo,

@@ -2,8 +2,7 @@
 use Prim.Native.Nat.{◌-◌}
 use mathlib.Core.Path.{refl, ◌∙◌}
 use native.Mathlib.Omega.{arith}
-use Rattle.book_parts.proofs.Writing.{Front, front-start, front-next, front-end, map_same}
-use borrow.Author.Rules.{rules}
+use Rattle.book_parts.proofs.Writing.{front-start, front-next, front-end, map_same}
 use Rattle.book_parts.proofs.put.copy_marks.Goals as goal
 
 pub loop-i-init : goal.loop-i-init

@@ -1,9 +1,6 @@
 -- `copy_marks`: what is written so far is the front of the marks (Writing). Assumes nothing.
 use Prim.Native.Nat.{◌-◌}
-use mathlib.Core.Path.{refl, ◌∙◌}
-use native.Mathlib.Omega.{arith}
-use Rattle.book_parts.proofs.Writing.{Front, front-start, front-next, front-end, map_same}
-use borrow.Author.Rules.{rules}
+use Rattle.book_parts.proofs.Writing.{Front}
 use Rattle.book_parts.proofs.put.copy_marks.Given as goal
 
 abbrev pub invariant-loop-i : goal.invariant-loop-i

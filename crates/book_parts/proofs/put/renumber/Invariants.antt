@@ -1,9 +1,7 @@
 -- `renumber`: what is written so far is the front of the members' numbers (Writing). Assumes nothing.
 use Prim.Native.Nat.{◌-◌}
-use native.Mathlib.Omega.{arith}
 use Rattle.shares.specs.Shares.{number_in}
-use Rattle.book_parts.proofs.Writing.{Front, front-start, front-next, front-end}
-use borrow.Author.Rules.{rules}
+use Rattle.book_parts.proofs.Writing.{Front}
 use Rattle.book_parts.proofs.put.renumber.Given as goal
 
 abbrev pub invariant-loop-i : goal.invariant-loop-i

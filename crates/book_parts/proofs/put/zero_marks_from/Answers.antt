@@ -1,9 +1,7 @@
 -- `zero_marks_from`: behind the place all that is passed is zero (Writing). Assumes nothing.
 use Prim.Native.Nat.{◌-◌}
 use native.Mathlib.Omega.{arith}
-use lib.ListN.{length}
-use Rattle.book_parts.proofs.Writing.{Zeroed, zeroed_start, zeroed-next, zeroed-end}
-use borrow.Author.Rules.{rules}
+use Rattle.book_parts.proofs.Writing.{zeroed_start, zeroed-next, zeroed-end}
 use Rattle.book_parts.proofs.put.zero_marks_from.Goals as goal
 
 pub loop-i-init : goal.loop-i-init

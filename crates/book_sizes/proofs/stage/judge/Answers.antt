@@ -1,11 +1,10 @@
 -- `judge`: the formula, or a later call (Stages). Assumes nothing.
 use mathlib.Core.Path.{sym, ◌∙◌}
-use borrow.Author.Rules.{rules}
 use Rattle.table.specs.Indexed.{Table, table_of}
 use Rattle.state.specs.States.{Lent, lent_of}
 use Rattle.shares.specs.Books.{BookLists}
 use Rattle.book_line.specs.Says.{lists_made}
-use Rattle.book_sizes.proofs.Stages.{later-stage, first-is, later-is, first-ready}
+use Rattle.book_sizes.proofs.Stages.{first-ready}
 use Rattle.book_sizes.proofs.stage.judge.Goals as goal
 
 pub judge_first-requires : goal.judge_first-requires

@@ -1,7 +1,7 @@
 -- `find` finds where the clause's diagram stands: at the start of each turn the clause of the later variables does (Making). Assumes
 -- nothing.
-use mathlib.Core.Path.{◌≡◌, sym, ◌∙◌, subst}
-use Prim.Native.Nat.{ℕ, ◌-◌}
+use mathlib.Core.Path.{sym, ◌∙◌, subst}
+use Prim.Native.Nat.{◌-◌}
 use Rattle.table.specs.Nodes.{put}
 use Rattle.table.specs.declared.Found.{Found}
 use Rattle.table.specs.Indexed.{table_of, size, nodes_of}

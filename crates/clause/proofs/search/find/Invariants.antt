@@ -1,14 +1,8 @@
 -- `find` finds where the clause's diagram stands: at the start of each turn the clause of the later variables does (Making). Assumes
 -- nothing.
-use mathlib.Core.Path.{◌≡◌, sym, ◌∙◌, subst}
-use borrow.Author.Rules.{rules}
-use Prim.Native.Nat.{ℕ, ◌-◌}
-use Rattle.table.specs.Nodes.{Placing, placed, put, place}
-use Rattle.table.specs.declared.Found.{Found}
-use Rattle.table.specs.Indexed.{Table, table_of, size, nodes_of}
-use Rattle.clause.specs.Words.{clause_of_words, Stands}
-use Rattle.clause.proofs.Making.{stay, Making, make-start}
-use Rattle.clause.proofs.Finding.{find-both, find-turn, find_absent, find-end}
+use Prim.Native.Nat.{◌-◌}
+use Rattle.table.specs.Indexed.{table_of}
+use Rattle.clause.proofs.Making.{stay, Making}
 use Rattle.clause.proofs.search.find.Given as goal
 
 abbrev pub invariant-loop-v : goal.invariant-loop-v

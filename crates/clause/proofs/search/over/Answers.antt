@@ -1,5 +1,4 @@
 -- `over` is the child, or what the lookup finds. Assumes nothing.
-use borrow.Author.Rules.{rules}
 use Rattle.clause.proofs.Finding.{over-same, over-looked}
 use Rattle.clause.proofs.search.over.Goals as goal
 

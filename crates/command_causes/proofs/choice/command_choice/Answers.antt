@@ -1,6 +1,5 @@
 -- `command_choice`: by the kind. Assumes nothing.
 use mathlib.Core.Path.{sym, ap, ◌∙◌}
-use borrow.Author.Rules.{rules}
 use Rattle.command_causes.specs.Choice.{command_choice}
 use Rattle.command_causes.proofs.choice.command_choice.Goals as goal
 

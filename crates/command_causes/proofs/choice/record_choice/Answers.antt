@@ -1,6 +1,5 @@
 -- `record_choice`: by the kind. Assumes nothing.
 use mathlib.Core.Path.{sym, ap, ◌∙◌}
-use borrow.Author.Rules.{rules}
 use Rattle.command_causes.specs.Choice.{record_choice}
 use Rattle.command_causes.proofs.choice.record_choice.Goals as goal
 

@@ -1,6 +1,5 @@
 -- `shut_choice`: by the rule. Assumes nothing.
 use mathlib.Core.Path.{sym, ap}
-use borrow.Author.Rules.{rules}
 use Rattle.records.specs.declared.Rule.{Rule}
 use Rattle.command_causes.specs.Choice.{shut_choice}
 use Rattle.command_causes.proofs.choice.shut_choice.Goals as goal

@@ -2,7 +2,6 @@
 use mathlib.Core.Path.{◌≡◌, refl, sym, ◌∙◌}
 use native.Mathlib.Omega.{arith}
 use lib.ListN.{length}
-use borrow.Author.Rules.{rules}
 use Rattle.table.specs.Indexed.{nodes_of}
 use Rattle.walks.proofs.Here.{good-readable}
 use Rattle.verdict.specs.Steps.{entry_node}
@@ -37,9 +36,12 @@ pub node_cause-child-requires : goal.node_cause-child-requires
 unfolding nodes_of
 node_cause-child-requires c =
     let H = c.requires.0 in
-    let A = asks-node c.args.variables c.args.number (lent c.before.before.before.before.before.before.before.before.before.before.before.before.before.before) c.args.st c.requires.0 c.args.command c.requires.5 _
+    let A = asks-node c.args.variables c.args.number
+    (lent c.before.before.before.before.before.before.before.before.before.before.before.before.before.before) c.args.st c.requires.0
+    c.args.command c.requires.5 _
     (chosen c.before.before ∙ c.in-OutOfOrder.is) in (
-      good-readable (table_in (lent c.before.before.before.before.before.before.before.before.before.before.before.before.before.before) c.args.st.count) H.entries.good,
+      good-readable (table_in (lent c.before.before.before.before.before.before.before.before.before.before.before.before.before.before)
+          c.args.st.count) H.entries.good,
       H.entries.inside,
       omega (arith, H.entries.few, H.entries.room),
       A.0,
@@ -54,10 +56,14 @@ pub shut_cause-word-requires : goal.shut_cause-word-requires
 unfolding entry_node nodes_of
 shut_cause-word-requires c =
     let H = c.requires.0 in
-    let A = asks-witness c.args.variables c.args.number (lent c.before.before.before.before.before.before.before.before.before.before.before.before.before.before.before) c.args.st c.requires.0 c.args.command c.requires.5 _
+    let A = asks-witness c.args.variables c.args.number
+    (lent c.before.before.before.before.before.before.before.before.before.before.before.before.before.before.before) c.args.st
+    c.requires.0 c.args.command c.requires.5 _
     (chosen c.before.before.before ∙ c.in-NotWitnessed.is) in record {
       readable = (
-        good-readable (table_in (lent c.before.before.before.before.before.before.before.before.before.before.before.before.before.before.before) c.args.st.count) H.entries.good,
+        good-readable (table_in (lent
+            c.before.before.before.before.before.before.before.before.before.before.before.before.before.before.before) c.args.st.count)
+            H.entries.good,
         H.entries.inside,
         omega (arith, H.entries.few, H.entries.room),
         A.0,
@@ -74,7 +80,8 @@ of_numbers-requires-in-NotWitnessed c =
 pub line_cause-requires : goal.line_cause-requires
 line_cause-requires c =
     let H = c.requires.0 in (
-      asks-line c.args.variables c.args.number (lent c.before.before.before.before.before.before.before.before.before.before.before.before.before.before.before.before.before.before.before.before.before.before.before) c.args.st c.requires.0 c.args.command c.requires.5 _ _
+      asks-line c.args.variables c.args.number (lent
+          c.before.before.before.before.before.before.before.before.before.before.before.before.before.before.before.before.before.before.before.before.before.before.before) c.args.st c.requires.0 c.args.command c.requires.5 _ _
           (chosen c.before.before.before.before.before.before.before.before.before.before.before ∙ c.in-NotShown.is),
       c.requires.1,
       c.requires.2,
@@ -89,11 +96,13 @@ clause_cause-f-requires c =
       held-64 _ _ _ H,
       c.requires.1,
       c.requires.2,
-      asks-pivot c.args.variables c.args.number (lent c.before.before.before.before.before.before.before.before.before.before.before.before.before.before.before.before.before.before.before.before.before.before.before) c.args.st c.requires.0
+      asks-pivot c.args.variables c.args.number
+          (lent c.before.before.before.before.before.before.before.before.before.before.before.before.before.before.before.before.before.before.before.before.before.before.before) c.args.st c.requires.0
           c.args.command c.requires.5 _ e,
       c.requires.3,
       c.requires.4,
-      asks-clause c.args.variables c.args.number (lent c.before.before.before.before.before.before.before.before.before.before.before.before.before.before.before.before.before.before.before.before.before.before.before) c.args.st
+      asks-clause c.args.variables c.args.number
+          (lent c.before.before.before.before.before.before.before.before.before.before.before.before.before.before.before.before.before.before.before.before.before.before.before) c.args.st
           c.requires.0 c.args.command c.requires.5 _ e,
     )
 
@@ -104,9 +113,13 @@ of_rounds-requires c =
 pub returns-in-Plain : goal.returns-in-Plain
 returns-in-Plain c =
     let H = c.requires.0 in record {
-      fixed_after = tells_as c.args.variables c.args.number (lent c.before.before.before.before.before.before.before.before.before.before.before.before.before.before.before) c.args.st c.requires.0 c.args.command (length c.args.fixed.now)
+      fixed_after = tells_as c.args.variables c.args.number
+          (lent c.before.before.before.before.before.before.before.before.before.before.before.before.before.before.before) c.args.st
+          c.requires.0 c.args.command (length c.args.fixed.now)
           c.args.fixed.now _ _ c.of_numbers.ensures.value
-          (tells-plain c.args.variables c.args.number (lent c.before.before.before.before.before.before.before.before.before.before.before.before.before.before.before) c.args.st c.requires.0 c.args.command
+          (tells-plain c.args.variables c.args.number
+          (lent c.before.before.before.before.before.before.before.before.before.before.before.before.before.before.before) c.args.st
+          c.requires.0 c.args.command
           (length c.args.fixed.now) c.args.fixed.now (chosen c.before.before.before ∙ c.in-Plain.is) c.requires.4);
       count_unchanged = refl;
       marks_after = c.requires.1;
@@ -115,9 +128,13 @@ returns-in-Plain c =
 pub returns-in-OutOfOrder : goal.returns-in-OutOfOrder
 returns-in-OutOfOrder c =
     let H = c.requires.0 in record {
-      fixed_after = tells_as c.args.variables c.args.number (lent c.before.before.before.before.before.before.before.before.before.before.before.before.before.before.before.before) c.args.st c.requires.0 c.args.command (length c.args.fixed.now)
+      fixed_after = tells_as c.args.variables c.args.number
+          (lent c.before.before.before.before.before.before.before.before.before.before.before.before.before.before.before.before) c.args.st
+          c.requires.0 c.args.command (length c.args.fixed.now)
           c.args.fixed.now _ _ c.of_numbers-in-OutOfOrder.ensures.value
-          (tells-node c.args.variables c.args.number (lent c.before.before.before.before.before.before.before.before.before.before.before.before.before.before.before.before) c.args.st c.requires.0 c.args.command
+          (tells-node c.args.variables c.args.number
+          (lent c.before.before.before.before.before.before.before.before.before.before.before.before.before.before.before.before)
+          c.args.st c.requires.0 c.args.command
           (length c.args.fixed.now) c.args.fixed.now _ (chosen c.before.before.before.before ∙ c.in-OutOfOrder.is) _
           (c.node_cause-child.ensures c.args.heads.now c.args.links.now c.args.members.now c.args.struck.now)
           c.requires.4);
@@ -129,11 +146,15 @@ pub returns-in-NotWitnessed : goal.returns-in-NotWitnessed
 returns-in-NotWitnessed c =
     let H = c.requires.0 in
     record {
-      fixed_after = tells_as c.args.variables c.args.number (lent c.before.before.before.before.before.before.before.before.before.before.before.before.before.before.before.before.before.before.before) c.args.st c.requires.0 c.args.command (length c.args.fixed.now)
+      fixed_after = tells_as c.args.variables c.args.number
+          (lent c.before.before.before.before.before.before.before.before.before.before.before.before.before.before.before.before.before.before.before) c.args.st c.requires.0 c.args.command (length c.args.fixed.now)
           c.args.fixed.now _ _ c.of_numbers-in-NotWitnessed.ensures.value
-          (tells-witness c.args.variables c.args.number (lent c.before.before.before.before.before.before.before.before.before.before.before.before.before.before.before.before.before.before.before) c.args.st c.requires.0 c.args.command
-          (length c.args.fixed.now) c.args.fixed.now _ (chosen c.before.before.before.before.before.before.before ∙ c.in-NotWitnessed.is) c.shut_cause-word.result
-          c.of_numbers-in-NotWitnessed.ensures.word_bound (c.shut_cause-word.ensures.g_value c.args.heads.now c.args.links.now c.args.members.now
+          (tells-witness c.args.variables c.args.number
+          (lent c.before.before.before.before.before.before.before.before.before.before.before.before.before.before.before.before.before.before.before) c.args.st c.requires.0 c.args.command
+          (length c.args.fixed.now) c.args.fixed.now _ (chosen c.before.before.before.before.before.before.before ∙ c.in-NotWitnessed.is)
+          c.shut_cause-word.result
+          c.of_numbers-in-NotWitnessed.ensures.word_bound
+          (c.shut_cause-word.ensures.g_value c.args.heads.now c.args.links.now c.args.members.now
           c.args.struck.now) c.shut_cause-word.ensures.by_index c.requires.4);
       count_unchanged = refl;
       marks_after = c.requires.1;
@@ -179,8 +200,10 @@ pub returns-in-NotShown : goal.returns-in-NotShown
 returns-in-NotShown c =
     record {
       fixed_after = (
-          tells-line c.args.variables c.args.number (lent c.before.before.before.before.before.before.before.before.before.before.before.before.before.before.before.before.before.before.before.before.before.before.before.before.before.before.before.before.before.before.before.before.before.before.before.before.before.before.before.before.before.before) c.args.st c.requires.0 c.args.command (length c.args.fixed.now)
-          c.line_cause.new.fixed _ _ (chosen c.before.before.before.before.before.before.before.before.before.before.before.before.before.before.before.before.before.before.before.before.before.before.before.before.before.before.before.before.before.before ∙ c.in-NotShown.is) c.line_cause.result c.line_cause.ensures.fixed_after
+          tells-line c.args.variables c.args.number
+          (lent c.before.before.before.before.before.before.before.before.before.before.before.before.before.before.before.before.before.before.before.before.before.before.before.before.before.before.before.before.before.before.before.before.before.before.before.before.before.before.before.before.before.before) c.args.st c.requires.0 c.args.command (length c.args.fixed.now)
+          c.line_cause.new.fixed _ _
+          (chosen c.before.before.before.before.before.before.before.before.before.before.before.before.before.before.before.before.before.before.before.before.before.before.before.before.before.before.before.before.before.before ∙ c.in-NotShown.is) c.line_cause.result c.line_cause.ensures.fixed_after
           );
       count_unchanged = c.line_cause.ensures.count_unchanged;
       marks_after = c.line_cause.ensures.marks_after;
@@ -226,9 +249,11 @@ pub returns-in-ClauseNotShown : goal.returns-in-ClauseNotShown
 returns-in-ClauseNotShown c =
     record {
       fixed_after = (
-          tells_as c.args.variables c.args.number (lent c.before.before.before.before.before.before.before.before.before.before.before.before.before.before.before.before.before.before.before.before.before.before.before.before.before.before.before.before.before.before.before.before.before.before.before.before.before.before.before.before.before.before.before) c.args.st c.requires.0 c.args.command (length c.args.fixed.now)
+          tells_as c.args.variables c.args.number
+          (lent c.before.before.before.before.before.before.before.before.before.before.before.before.before.before.before.before.before.before.before.before.before.before.before.before.before.before.before.before.before.before.before.before.before.before.before.before.before.before.before.before.before.before.before) c.args.st c.requires.0 c.args.command (length c.args.fixed.now)
           c.clause_cause-f.new.fixed _ _ c.of_rounds.ensures
-          (tells-clause c.args.variables c.args.number (lent c.before.before.before.before.before.before.before.before.before.before.before.before.before.before.before.before.before.before.before.before.before.before.before.before.before.before.before.before.before.before.before.before.before.before.before.before.before.before.before.before.before.before.before) c.args.st c.requires.0 c.args.command
+          (tells-clause c.args.variables c.args.number
+          (lent c.before.before.before.before.before.before.before.before.before.before.before.before.before.before.before.before.before.before.before.before.before.before.before.before.before.before.before.before.before.before.before.before.before.before.before.before.before.before.before.before.before.before.before) c.args.st c.requires.0 c.args.command
           (length c.args.fixed.now) c.clause_cause-f.new.fixed _
           (chosen c.before.before.before.before.before.before.before.before.before.before.before.before.before.before.before.before.before.before.before.before.before.before.before.before.before.before.before.before.before.before.before ∙ c.in-ClauseNotShown.is) c.clause_cause-f.result c.clause_cause-f.ensures.st_value)
           );

@@ -4,7 +4,6 @@ use mathlib.Core.List.{List}
 use Prim.Native.Nat.{ℕ}
 use native.Mathlib.Omega.{arith}
 use lib.ListN.{length}
-use borrow.Author.Rules.{rules}
 use Rattle.records.specs.declared.Rule.{Rule}
 use Rattle.records.specs.declared.Rule.TheVariants.{Rup, Pr, Path}
 use Rattle.verdict.specs.Steps as check
@@ -43,12 +42,17 @@ module _ (a : lts.After-entry_node tie.the-claims reads.Pre reads.Post tie.hande
 
   -- what the answer r says, with these words
   abbrev Says : List ℕ → Cause → Type 0
-  Says words r = Tells (lent a.before.before.before.before.before.before.before.before.before.before.before.before) a.args.st a.args.root.0 (length a.args.fixed.now) words r a.args.rule
+  Says words r = Tells (lent a.before.before.before.before.before.before.before.before.before.before.before.before) a.args.st a.args.root.0
+      (length a.args.fixed.now) words r a.args.rule
 
 pub entry_node-g-requires : goal.entry_node-g-requires
 entry_node-g-requires c =
-    let H = held c.before.before.before.before.before.before.before.before.before.before.before.before in
-    (omega (arith, H.entries.few, H.entries.room), root_below (lent c.before.before.before.before.before.before.before.before.before.before.before.before) c.args.st c.args.root.0 c.args.rule c.requires.0)
+    let H = held c.before.before.before.before.before.before.before.before.before.before.before.before in (
+      omega (arith, H.entries.few, H.entries.room),
+      root_below
+          (lent c.before.before.before.before.before.before.before.before.before.before.before.before) c.args.st c.args.root.0 c.args.rule
+          c.requires.0,
+    )
 
 pub rup_cause-rounds-requires : goal.rup_cause-rounds-requires
 rup_cause-rounds-requires c =
@@ -145,7 +149,8 @@ shape_of-fixed-in-Rup c =
 pub returns-in-Rup : goal.returns-in-Rup
 returns-in-Rup c =
     let words = c.rup_cause-rounds.new.fixed in record {
-      fixed_after = subst (Says c.before.before.before.before.before.before.before.before.before.before.before.before.before.before.before.before.before.before.before.before.before.before.before.before.before.before.before.before words) (sym c.of_rounds.ensures)
+      fixed_after = subst (Says
+          c.before.before.before.before.before.before.before.before.before.before.before.before.before.before.before.before.before.before.before.before.before.before.before.before.before.before.before.before words) (sym c.of_rounds.ensures)
           (tells_as (lent c.before.before.before.before.before.before.before.before.before.before.before.before.before.before.before.before.before.before.before.before.before.before.before.before.before.before.before.before.before.before.before.before.before.before.before.before.before.before.before.before) c.args.st c.args.root.0 (length c.args.fixed.now) words _ c.args.rule Rup
           c.in-Rup.is
           (rup-tells (lent c.before.before.before.before.before.before.before.before.before.before.before.before.before.before.before.before.before.before.before.before.before.before.before.before.before.before.before.before.before.before.before.before.before.before.before.before.before.before.before.before) c.args.st c.args.root.0 (g c.before.before.before.before.before.before.before.before.before.before.before.before.before.before.before.before.before.before.before.before.before.before.before.before.before.before.before.before) (is c.before.before.before.before.before.before.before.before.before.before.before.before.before.before.before.before.before.before.before.before.before.before.before.before.before.before.before.before) (length c.args.fixed.now) words
@@ -193,7 +198,8 @@ shape_of-fixed-in-Pr c =
 pub returns-in-Pr : goal.returns-in-Pr
 returns-in-Pr c =
     let words = c.pr_cause-t.new.fixed in record {
-      fixed_after = subst (Says c.before.before.before.before.before.before.before.before.before.before.before.before.before.before.before.before.before.before.before.before.before.before.before.before.before.before.before.before.before.before.before.before words) (sym c.of_rounds-in-Pr.ensures)
+      fixed_after = subst (Says
+          c.before.before.before.before.before.before.before.before.before.before.before.before.before.before.before.before.before.before.before.before.before.before.before.before.before.before.before.before.before.before.before.before words) (sym c.of_rounds-in-Pr.ensures)
           (tells_as (lent c.before.before.before.before.before.before.before.before.before.before.before.before.before.before.before.before.before.before.before.before.before.before.before.before.before.before.before.before.before.before.before.before.before.before.before.before.before.before.before.before.before.before.before.before) c.args.st c.args.root.0 (length c.args.fixed.now) words _ c.args.rule Pr
           c.in-Pr.is
           (pr-tells (lent c.before.before.before.before.before.before.before.before.before.before.before.before.before.before.before.before.before.before.before.before.before.before.before.before.before.before.before.before.before.before.before.before.before.before.before.before.before.before.before.before.before.before.before.before) c.args.st c.args.root.0 (g c.before.before.before.before.before.before.before.before.before.before.before.before.before.before.before.before.before.before.before.before.before.before.before.before.before.before.before.before.before.before.before.before) (is c.before.before.before.before.before.before.before.before.before.before.before.before.before.before.before.before.before.before.before.before.before.before.before.before.before.before.before.before.before.before.before.before) (length c.args.fixed.now) words
@@ -241,7 +247,8 @@ shape_of-fixed-in-Path c =
 pub returns-in-Path : goal.returns-in-Path
 returns-in-Path c =
     let words = c.path_cause-rounds.new.fixed in record {
-      fixed_after = subst (Says c.before.before.before.before.before.before.before.before.before.before.before.before.before.before.before.before.before.before.before.before.before.before.before.before.before.before.before.before.before.before.before words) (sym c.of_rounds-in-Path.ensures)
+      fixed_after = subst (Says
+          c.before.before.before.before.before.before.before.before.before.before.before.before.before.before.before.before.before.before.before.before.before.before.before.before.before.before.before.before.before.before.before words) (sym c.of_rounds-in-Path.ensures)
           (tells_as (lent c.before.before.before.before.before.before.before.before.before.before.before.before.before.before.before.before.before.before.before.before.before.before.before.before.before.before.before.before.before.before.before.before.before.before.before.before.before.before.before.before.before.before.before) c.args.st c.args.root.0 (length c.args.fixed.now) words _ c.args.rule Path
           c.in-Path.is
           (path-tells (lent c.before.before.before.before.before.before.before.before.before.before.before.before.before.before.before.before.before.before.before.before.before.before.before.before.before.before.before.before.before.before.before.before.before.before.before.before.before.before.before.before.before.before.before) c.args.st c.args.root.0 (g c.before.before.before.before.before.before.before.before.before.before.before.before.before.before.before.before.before.before.before.before.before.before.before.before.before.before.before.before.before.before.before) (is c.before.before.before.before.before.before.before.before.before.before.before.before.before.before.before.before.before.before.before.before.before.before.before.before.before.before.before.before.before.before.before) (length c.args.fixed.now) words

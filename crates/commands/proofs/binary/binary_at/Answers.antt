@@ -1,5 +1,4 @@
 -- `binary_at`: the end, a clause added, a clause struck or another byte, each by the law of that case. Assumes nothing.
-use borrow.Author.Rules.{rules}
 use Rattle.commands.proofs.Stream.{binary-finished, binary-adding, binary-striking, binary-unknown}
 use Rattle.commands.proofs.binary.binary_at.Goals as goal
 

@@ -1,7 +1,6 @@
 -- `clause_in`: the clause as its groups give it, with its pivot; a refusal with its place from the opening byte. Assumes nothing.
 use mathlib.Core.Path.{refl, sym, ◌∙◌}
 use native.Mathlib.Omega.{arith}
-use borrow.Author.Rules.{rules}
 use Rattle.commands.proofs.Reading.{answer-closed, answer-refused, answer-end, refused-in}
 use Rattle.commands.proofs.OpenGroups.{groups-pivot}
 use Rattle.commands.proofs.Onward.{BinaryFault, binary-clause-in}

@@ -3,7 +3,6 @@ use mathlib.Core.Path.{refl}
 use Prim.Native.Nat.{◌≤◌, ◌<◌}
 use lib.ListN.{length, get_or}
 use native.Mathlib.Omega.{arith}
-use borrow.Author.Rules.{rules}
 use Rattle.commands.proofs.Groups.{open-first, read-cut, read-closing, read_one, read_short, read-surplus, read-two, read-many}
 use Rattle.commands.proofs.binary.groups_at.Reads as reads
 use Rattle.commands.proofs.binary.groups_at.Lts as lts

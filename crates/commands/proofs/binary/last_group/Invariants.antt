@@ -1,14 +1,10 @@
 -- `last_group` ends where the run of open groups ends. The loop: what is left of the run is the run. The measure is what is left of the
 -- proof.
 -- Assumes nothing.
-use mathlib.Core.Path.{◌≡◌, refl, sym, ◌∙◌}
+use mathlib.Core.Path.{◌≡◌}
 use Prim.Native.Nat.{◌≤◌, ◌-◌}
-use native.Mathlib.Omega.{arith}
 use lib.ListN.{length}
-use borrow.Author.Rules.{rules}
-use borrow.Author.Tests.{le-leb, lt-leb}
 use Rattle.dimacs.specs.Text.{past}
-use Rattle.dimacs.proofs.Runs.{past_end, past_stop, past-go}
 use Rattle.commands.specs.Inner.{is_open_group}
 use Rattle.commands.proofs.binary.last_group.Given as goal
 

@@ -1,5 +1,4 @@
 -- `literal_of`: 4 beyond the variables, else the literal. Assumes nothing.
-use borrow.Author.Rules.{rules}
 use borrow.Author.Tests.{lt-ltb, le-ltb}
 use Rattle.commands.proofs.binary.literal_of.Goals as goal
 

@@ -1,13 +1,10 @@
 -- `open_groups` reads to the zero byte. The loop: what is to be read is what is left to be read, with the literals so far. The measure is
 -- what is left of the proof, since groups have bytes. Assumes nothing.
-use mathlib.Core.Path.{◌≡◌, refl, sym, ap, ◌∙◌}
-use Prim.Native.Nat.{◌≤◌, ◌-◌}
+use mathlib.Core.Path.{refl, sym, ap, ◌∙◌}
+use Prim.Native.Nat.{◌-◌}
 use native.Mathlib.Omega.{arith}
-use lib.ListN.{length}
-use borrow.Author.Rules.{rules}
-use Rattle.words.specs.Sets.{no_literals}
 use Rattle.dimacs.specs.declared.Clause.TheVariants.{Refused}
-use Rattle.commands.proofs.OpenGroups.{rest_in, rest-open, rest-closing, rest-wrong, rest-literal, IsLiteral, literal-in}
+use Rattle.commands.proofs.OpenGroups.{rest-open, rest-closing, rest-wrong, rest-literal, IsLiteral, literal-in}
 use Rattle.commands.proofs.binary.open_groups.Reads as reads
 use Rattle.commands.proofs.binary.open_groups.Lts as lts
 use Rattle.commands.proofs.binary.open_groups.Tie as tie

@@ -4,7 +4,6 @@ use mathlib.Core.Path.{sym, ap, ◌∙◌}
 use native.Mathlib.Omega.{arith}
 use Rattle.dimacs.specs.Text.{between}
 use Rattle.commands.proofs.Reading.{Fault, clause-in, pivot-is, answer-closed, answer-refused, answer-end, closed_in, refused-in}
-use borrow.Author.Rules.{rules}
 use Rattle.commands.specs.Inner.{pivot_at}
 use Rattle.commands.proofs.text.clause_at.Goals as goal
 

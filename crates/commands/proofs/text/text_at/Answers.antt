@@ -1,7 +1,6 @@
 -- `text_at`: the end, a clause struck or a clause added, each by the law of that case. Assumes nothing.
 use mathlib.Core.Path.{sym, ◌∙◌}
 use Rattle.commands.proofs.Stream.{text-finished, text-striking, text-adding}
-use borrow.Author.Rules.{rules}
 use Rattle.commands.proofs.text.text_at.Goals as goal
 
 pub returns-then-is_letter : goal.returns-then-is_letter

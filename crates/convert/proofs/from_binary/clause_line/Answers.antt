@@ -2,7 +2,6 @@
 use mathlib.Core.Path.{refl, subst}
 use Prim.Native.Nat.{◌+◌}
 use mathlib.Core.Bool.{true, false}
-use borrow.Author.Rules.{rules}
 use Rattle.convert.specs.declared.Written.TheVariants.{Refused}
 use Rattle.convert.specs.Convert.{text_literals, text_line}
 use Rattle.convert.specs.Inner.{Opened, poured, LineWritten}
@@ -21,7 +20,8 @@ returns-then-kind-eq97 c =
 pub returns-then-kind-eq100 : goal.returns-then-kind-eq100
 returns-then-kind-eq100 c =
     let a = c.args in
-    subst (λ (y : Opened). LineWritten text_line (poured a.out.now a.many) c.clause_literals-then-kind-eq100.new.out y c.clause_literals-then-kind-eq100.result)
+    subst (λ (y : Opened). LineWritten text_line (poured a.out.now a.many) c.clause_literals-then-kind-eq100.new.out y
+    c.clause_literals-then-kind-eq100.result)
     (binary-striking _ _ c.if-kind-eq97.false c.if-kind-eq100.true)
     (opened-two text_line text_literals true (poured a.out.now a.many) c.clause_literals-then-kind-eq100.new.out
     (binary_rest a.binary.now a.at (a.at + 1)) c.clause_literals-then-kind-eq100.result 100 32 (λ ls. refl) _ _

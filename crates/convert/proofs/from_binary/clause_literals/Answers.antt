@@ -2,16 +2,14 @@
 -- measure is what is left of the proof, since groups have bytes. Assumes nothing.
 use mathlib.Core.Path.{◌≡◌, refl, sym, ap, ◌∙◌}
 use mathlib.Core.List.{List, [], ◌∷◌, ◌++◌, append_assoc}
-use Prim.Native.Nat.{ℕ, ◌≤◌, ◌-◌}
+use Prim.Native.Nat.{◌-◌}
 use native.Mathlib.Omega.{arith}
-use lib.ListN.{length}
-use borrow.Author.Rules.{rules}
 use Rattle.meaning.specs.Operations.{Literal}
 use Rattle.dimacs.specs.Clauses.{Next, refused}
 use Rattle.commands.proofs.OpenGroups.{IsLiteral, literal-in}
 use Rattle.convert.specs.Convert.{token_text, text_literals}
 use Rattle.convert.specs.Inner.{literal_made, spaced, Poured, poured, put_byte}
-use Rattle.convert.proofs.Pouring.{put_two, Leads, leads-literal, leads-closed, leads-refused, long_as}
+use Rattle.convert.proofs.Pouring.{put_two, leads-literal, leads-closed, leads-refused, long_as}
 use Rattle.convert.proofs.Clauses.{binary_rest, binary-open, binary-closing, binary-wrong, binary-literal}
 use Rattle.convert.proofs.from_binary.clause_literals.Invariants.{bytes}
 use Rattle.convert.proofs.from_binary.clause_literals.Reads as reads
@@ -44,14 +42,18 @@ loop-at-init c = (omega arith, refl, λ o r W. W)
 
 pub returns-in-Closing : goal.returns-in-Closing
 returns-in-Closing c =
-    leads-closed text_literals (before c.before.before.before.before.before.before.before.before.before.before.before.before.before.before.before) (whole c.before.before.before.before.before.before.before.before.before.before.before.before.before.before.before) _ _ c.loop-at.invariant.2 _ _ _ _
+    leads-closed text_literals
+    (before c.before.before.before.before.before.before.before.before.before.before.before.before.before.before.before)
+    (whole c.before.before.before.before.before.before.before.before.before.before.before.before.before.before.before) _ _
+    c.loop-at.invariant.2 _ _ _ _
     (binary-closing _ _ _ c.loop-at-test.true _ c.groups_at-groups.ensures
     c.in-Closing.is)
     (c.put.ensures ∙ ap (λ (w : Poured). put_byte w 10) c.put-zero.ensures ∙ put_two _ 48 10)
 
 pub returns-in-Wrong : goal.returns-in-Wrong
 returns-in-Wrong c =
-    leads-refused text_literals (before c.before.before.before.before.before.before.before.before) (whole c.before.before.before.before.before.before.before.before) _ _ c.loop-at.invariant.2
+    leads-refused text_literals (before c.before.before.before.before.before.before.before.before)
+    (whole c.before.before.before.before.before.before.before.before) _ _ c.loop-at.invariant.2
     _ _ c.loop-at.out
     (binary-wrong _ _ _ c.loop-at-test.true _ c.groups_at-groups.ensures _
     c.in-Wrong.is
@@ -67,7 +69,8 @@ pub loop-at-preserved : goal.loop-at-preserved
 loop-at-preserved c = (
   (literal c.before.before.before.before.before).within,
   long_as _ _ _ c.put_literal-bytes.ensures ∙ c.loop-at.invariant.1,
-  leads-literal text_literals (before c.before.before.before.before.before.before.before.before.before.before.before) (whole c.before.before.before.before.before.before.before.before.before.before.before) _ _
+  leads-literal text_literals (before c.before.before.before.before.before.before.before.before.before.before.before)
+      (whole c.before.before.before.before.before.before.before.before.before.before.before) _ _
       c.loop-at.invariant.2 (made c.before.before.before.before.before) (bytes (made c.before.before.before.before.before))
       (binary_rest c.args.binary.now c.args.first
       c.groups_at-groups.result.end) (splits (made c.before.before.before.before.before))
@@ -77,5 +80,6 @@ loop-at-preserved c = (
 )
 
 pub returns : goal.returns
-returns c = leads-refused text_literals (before c.before.before.before.before.before) (whole c.before.before.before.before.before) _ _ c.loop-at.invariant.2 _ _
+returns c = leads-refused text_literals (before c.before.before.before.before.before) (whole c.before.before.before.before.before) _ _
+    c.loop-at.invariant.2 _ _
     c.loop-at.out (binary-open _ _ _ c.loop-at-test.false) refl

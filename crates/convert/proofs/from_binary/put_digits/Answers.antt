@@ -3,7 +3,6 @@ use mathlib.Core.Path.{ap, ◌∙◌}
 use Prim.Native.Nat.{◌+◌, ◌%◌}
 use Rattle.convert.specs.Inner.{Poured, put_byte}
 use Rattle.convert.proofs.Pouring.{digits-short, digits_long}
-use borrow.Author.Rules.{rules}
 use Rattle.convert.proofs.from_binary.put_digits.Goals as goal
 
 pub returns-then-variable-lt10 : goal.returns-then-variable-lt10

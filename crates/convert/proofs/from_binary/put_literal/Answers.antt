@@ -3,7 +3,6 @@ use mathlib.Core.Path.{ap, ◌∙◌}
 use Rattle.convert.specs.Convert.{digits_of}
 use Rattle.convert.specs.Inner.{Poured, put_byte, put_all}
 use Rattle.convert.proofs.Pouring.{literal-spaced}
-use borrow.Author.Rules.{rules}
 use Rattle.convert.proofs.from_binary.put_literal.Goals as goal
 
 pub returns : goal.returns

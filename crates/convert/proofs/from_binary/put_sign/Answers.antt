@@ -1,7 +1,6 @@
 -- `put_sign`: nothing, or a minus. Assumes nothing.
 use mathlib.Core.Path.{◌∙◌}
 use Rattle.convert.proofs.Pouring.{sign-none, sign-minus}
-use borrow.Author.Rules.{rules}
 use Rattle.convert.proofs.from_binary.put_sign.Goals as goal
 
 pub returns-then-positive : goal.returns-then-positive

@@ -5,11 +5,10 @@ use mathlib.Core.List.{List}
 use Prim.Native.Nat.{ℕ, ◌-◌}
 use native.Mathlib.Omega.{arith}
 use lib.ListN.{length}
-use borrow.Author.Rules.{rules}
 use Rattle.commands.specs.declared.Form.TheVariants.{Binary}
 use Rattle.convert.specs.Convert.{lines_of, text_line, converted_by, to_text}
-use Rattle.convert.specs.Inner.{poured, ClauseWritten, binary_next}
-use Rattle.convert.proofs.Lines.{binary-lines-at, binary-past, Remains, remains-start, remains-end, remains-refused, Behind}
+use Rattle.convert.specs.Inner.{ClauseWritten, binary_next}
+use Rattle.convert.proofs.Lines.{binary-lines-at, binary-past, remains-start, remains-end, remains-refused, Behind}
 use Rattle.convert.proofs.Lines.{remains-closed, cleared-long, cleared-own}
 use Rattle.convert.proofs.from_binary.to_text.Reads as reads
 use Rattle.convert.proofs.from_binary.to_text.Lts as lts

@@ -1,7 +1,6 @@
 -- `clause_line`: the opening byte, then the clause's literals. Assumes nothing.
 use mathlib.Core.Path.{refl, sym, ◌∙◌, subst}
 use mathlib.Core.Bool.{true, false}
-use borrow.Author.Rules.{rules}
 use Rattle.convert.specs.Convert.{binary_literals, binary_line}
 use Rattle.convert.specs.Inner.{Opened, poured, LineWritten}
 use Rattle.convert.proofs.Clauses.{text_rest}

@@ -1,19 +1,17 @@
 -- `clause_literals` puts literal after literal, up to the closing 0. The loop: what is to be written is what is left to be written. The
 -- measure is what is left of the text, since a token has bytes. Assumes nothing.
 use mathlib.Core.Path.{◌≡◌, refl, sym, ap, ◌∙◌}
-use mathlib.Core.List.{List}
-use Prim.Native.Nat.{ℕ, ◌≤◌, ◌+◌, ◌-◌}
+use Prim.Native.Nat.{ℕ, ◌+◌, ◌-◌}
 use native.Mathlib.Omega.{arith}
 use lib.ListN.{length}
-use borrow.Author.Rules.{rules}
 use Rattle.meaning.specs.Operations as meaning
 use Rattle.dimacs.specs.declared.Token.TheVariants.{Literal}
 use Rattle.dimacs.specs.Clauses.{Next, literal_then}
 use Rattle.dimacs.proofs.OpenClause.{token_at}
 use Rattle.dimacs.proofs.Tokens.{literal-bounds}
-use Rattle.convert.specs.Convert.{code_of, groups_of, token_text, binary_literals}
+use Rattle.convert.specs.Convert.{token_text, binary_literals}
 use Rattle.convert.specs.Inner.{literal_made, Poured, poured}
-use Rattle.convert.proofs.Pouring.{put_one, Leads, leads-literal, leads-closed, leads-refused, long_as}
+use Rattle.convert.proofs.Pouring.{put_one, leads-literal, leads-closed, leads-refused, long_as}
 use Rattle.convert.proofs.Clauses.{text_rest, text-open, text-closing, text-wrong, TextLiteral, text-literal}
 use Rattle.convert.proofs.from_text.clause_literals.Invariants.{bytes}
 use Rattle.convert.proofs.from_text.clause_literals.Reads as reads
@@ -22,18 +20,21 @@ use Rattle.convert.proofs.from_text.clause_literals.Tie as tie
 use Rattle.convert.proofs.from_text.clause_literals.Goals as goal
 
 -- what is lent, and what is to be read
-abbrev before : lts.Start tie.the-claims reads.Pre reads.Post goal.the-invariant-loop-at goal.the-decreases-loop-at tie.handed_clauses → Poured
+abbrev before : lts.Start tie.the-claims reads.Pre reads.Post goal.the-invariant-loop-at goal.the-decreases-loop-at tie.handed_clauses →
+    Poured
 before s = poured s.args.out.now s.args.many
 
 abbrev whole : lts.Start tie.the-claims reads.Pre reads.Post goal.the-invariant-loop-at goal.the-decreases-loop-at tie.handed_clauses → Next
 whole s = text_rest s.args.text.now s.args.first s.args.from
 
-says : (c : lts.Past-After-known_told2 tie.the-claims reads.Pre reads.Post goal.the-invariant-loop-at goal.the-decreases-loop-at tie.handed_clauses)
+says : (c : lts.Past-After-known_told2 tie.the-claims reads.Pre reads.Post goal.the-invariant-loop-at goal.the-decreases-loop-at
+    tie.handed_clauses)
     → token_at c.args.text.now 64 c.loop-at.at
     ≡ Literal c.in-Literal.variable c.in-Literal.positive
 says c = sym c.token_at.ensures ∙ c.in-Literal.is
 
-literal : (c : lts.Past-After-known_told2 tie.the-claims reads.Pre reads.Post goal.the-invariant-loop-at goal.the-decreases-loop-at tie.handed_clauses) (end : ℕ)
+literal : (c : lts.Past-After-known_told2 tie.the-claims reads.Pre reads.Post goal.the-invariant-loop-at goal.the-decreases-loop-at
+    tie.handed_clauses) (end : ℕ)
     → end ≡ c.loop-at.at + length (token_text (literal_made c.in-Literal.variable c.in-Literal.positive))
     → TextLiteral c.args.text.now c.args.first c.loop-at.at
     c.loop-at-test.true
@@ -41,7 +42,8 @@ literal : (c : lts.Past-After-known_told2 tie.the-claims reads.Pre reads.Post go
 literal c end is = text-literal _ _ _ c.loop-at-test.true _ _ end (says c) is
 
 -- the end of the token
-end_is : (c : lts.After-token_length tie.the-claims reads.Pre reads.Post goal.the-invariant-loop-at goal.the-decreases-loop-at tie.handed_clauses)
+end_is : (c : lts.After-token_length tie.the-claims reads.Pre reads.Post goal.the-invariant-loop-at goal.the-decreases-loop-at
+    tie.handed_clauses)
     → c.loop-at.at + c.token_length.result
     ≡ c.loop-at.at + length
     (token_text (literal_made c.in-Literal.variable
@@ -49,7 +51,8 @@ end_is : (c : lts.After-token_length tie.the-claims reads.Pre reads.Post goal.th
 end_is c = ap (λ (k : ℕ). c.loop-at.at + k) c.token_length.ensures
 
 -- the literal, and what is put of it
-abbrev made : lts.After-token_length tie.the-claims reads.Pre reads.Post goal.the-invariant-loop-at goal.the-decreases-loop-at tie.handed_clauses → meaning.Literal
+abbrev made : lts.After-token_length tie.the-claims reads.Pre reads.Post goal.the-invariant-loop-at goal.the-decreases-loop-at
+    tie.handed_clauses → meaning.Literal
 made c = literal_made c.in-Literal.variable
     c.in-Literal.positive
 
@@ -58,7 +61,8 @@ loop-at-init c = (omega arith, refl, λ o r W. W)
 
 pub returns-in-Closing : goal.returns-in-Closing
 returns-in-Closing c =
-    leads-closed binary_literals (before c.before.before.before.before.before.before.before.before.before.before.before) (whole c.before.before.before.before.before.before.before.before.before.before.before) _ _ c.loop-at.invariant.2 _ _ _
+    leads-closed binary_literals (before c.before.before.before.before.before.before.before.before.before.before.before)
+    (whole c.before.before.before.before.before.before.before.before.before.before.before) _ _ c.loop-at.invariant.2 _ _ _
     _
     (text-closing _ _ _ c.loop-at-test.true
     (sym c.token_at.ensures ∙ c.in-Closing.is))
@@ -66,7 +70,8 @@ returns-in-Closing c =
 
 pub returns-in-Wrong : goal.returns-in-Wrong
 returns-in-Wrong c =
-    leads-refused binary_literals (before c.before.before.before.before.before.before.before) (whole c.before.before.before.before.before.before.before) _ _
+    leads-refused binary_literals (before c.before.before.before.before.before.before.before)
+    (whole c.before.before.before.before.before.before.before) _ _
     c.loop-at.invariant.2 _ _ c.loop-at.out
     (text-wrong _ _ _ c.loop-at-test.true _
     (sym c.token_at.ensures ∙ c.in-Wrong.is)) refl
@@ -93,7 +98,8 @@ pub loop-at-preserved : goal.loop-at-preserved
 loop-at-preserved c = (
   c.skip_between-at.ensures.lower_bound.1,
   long_as _ _ _ c.put_groups-bytes.ensures ∙ c.loop-at.invariant.1,
-  leads-literal binary_literals (before c.before.before.before.before.before.before.before.before.before.before.before.before.before) (whole c.before.before.before.before.before.before.before.before.before.before.before.before.before) _ _
+  leads-literal binary_literals (before c.before.before.before.before.before.before.before.before.before.before.before.before.before)
+      (whole c.before.before.before.before.before.before.before.before.before.before.before.before.before) _ _
       c.loop-at.invariant.2 (made c.before.before) (bytes (made c.before.before))
       (text_rest c.args.text.now c.args.first c.skip_between-at.result)
       (λ ls. refl)
@@ -104,5 +110,6 @@ loop-at-preserved c = (
 )
 
 pub returns : goal.returns
-returns c = leads-refused binary_literals (before c.before.before.before.before.before) (whole c.before.before.before.before.before) _ _ c.loop-at.invariant.2 _
+returns c = leads-refused binary_literals (before c.before.before.before.before.before) (whole c.before.before.before.before.before) _ _
+    c.loop-at.invariant.2 _
     _ c.loop-at.out (text-open _ _ _ c.loop-at-test.false) refl

@@ -1,5 +1,4 @@
 -- `code_of`: twice the variable, and one more for a minus. Assumes nothing.
-use borrow.Author.Rules.{rules}
 use Rattle.convert.proofs.from_text.code_of.Goals as goal
 
 pub returns-then-positive : goal.returns-then-positive

@@ -4,7 +4,6 @@ use Prim.Native.Nat.{ℕ, ◌<◌}
 use Rattle.convert.specs.Convert.{groups_of}
 use Rattle.convert.specs.Inner.{Poured, poured, put_byte, put_all}
 use Rattle.convert.proofs.Pouring.{groups-short, groups-long, code-small}
-use borrow.Author.Rules.{rules}
 use Rattle.convert.proofs.from_text.put_groups.Goals as goal
 
 pub returns-then-number-lt128 : goal.returns-then-number-lt128

@@ -5,11 +5,10 @@ use mathlib.Core.List.{List}
 use Prim.Native.Nat.{ℕ, ◌-◌}
 use native.Mathlib.Omega.{arith}
 use lib.ListN.{length}
-use borrow.Author.Rules.{rules}
 use Rattle.dimacs.specs.Text.{between}
 use Rattle.commands.specs.declared.Form.TheVariants.{Text}
 use Rattle.convert.specs.Convert.{lines_of, binary_line, converted_by, to_binary}
-use Rattle.convert.specs.Inner.{poured, ClauseWritten, text_next}
+use Rattle.convert.specs.Inner.{ClauseWritten, text_next}
 use Rattle.convert.proofs.Lines.{text-lines-at, text-past, Remains, remains-start, remains-end, remains-refused, Behind}
 use Rattle.convert.proofs.Lines.{remains-closed, cleared-long, cleared-own}
 use Rattle.convert.proofs.from_text.to_binary.Reads as reads
@@ -18,7 +17,8 @@ use Rattle.convert.proofs.from_text.to_binary.Tie as tie
 use Rattle.convert.proofs.from_text.to_binary.Goals as goal
 
 -- behind a clause
-module _ (c : lts.Past-After-known_told tie.the-claims reads.Pre reads.Post goal.the-invariant-loop-at goal.the-decreases-loop-at tie.handed_clauses) where
+module _ (c : lts.Past-After-known_told tie.the-claims reads.Pre reads.Post goal.the-invariant-loop-at goal.the-decreases-loop-at
+    tie.handed_clauses) where
   abbrev proof-in-next : List ℕ
   proof-in-next = c.args.text.now
 
@@ -47,7 +47,8 @@ loop-at-smaller c =
     omega (arith, B.moves, B.remains.within, c.skip_between-at-in-Closed.ensures.value)
 
 pub loop-at-preserved : goal.loop-at-preserved
-loop-at-preserved c = subst (Remains binary_line Text _ _ _ _) (sym c.skip_between-at-in-Closed.ensures.value) (behind c.before.before).remains
+loop-at-preserved c = subst (Remains binary_line Text _ _ _ _) (sym c.skip_between-at-in-Closed.ensures.value)
+    (behind c.before.before).remains
 
 pub returns-in-Refused : goal.returns-in-Refused
 unfolding to_binary

@@ -1,7 +1,6 @@
 -- `finish`: 7 where more bytes were put than there are places. Assumes nothing.
 use mathlib.Core.Path.{◌∙◌}
 use Rattle.convert.proofs.Pouring.{finish-over, finish-fits}
-use borrow.Author.Rules.{rules}
 use Rattle.convert.proofs.output.finish.Goals as goal
 
 pub returns-then-out-many : goal.returns-then-out-many

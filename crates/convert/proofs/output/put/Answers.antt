@@ -1,6 +1,5 @@
 -- `put`: the byte where there is room, else nothing. Assumes nothing.
 use Rattle.convert.proofs.Pouring.{put-in, put-past}
-use borrow.Author.Rules.{rules}
 use Rattle.convert.proofs.output.put.Goals as goal
 
 pub returns-then-many-room : goal.returns-then-many-room

@@ -3,7 +3,6 @@ use mathlib.Core.Path.{ap}
 use mathlib.Core.List.{List}
 use Prim.Native.Nat.{ℕ}
 use Rattle.convert.specs.Convert.{Conversion}
-use borrow.Author.Rules.{rules}
 use Rattle.convert.proofs.output.refuse.Goals as goal
 
 pub returns : goal.returns

@@ -1,7 +1,6 @@
 -- `next_clause`: a token or none, a clause wanted or none, each by the law of that case. Assumes nothing.
 use mathlib.Core.Path.{sym, ◌∙◌}
 use native.Mathlib.Omega.{arith}
-use borrow.Author.Rules.{rules}
 use Rattle.dimacs.proofs.OpenClause.{next-many, next_here, next-end, next-few}
 use Rattle.dimacs.proofs.clauses.next_clause.Goals as goal
 

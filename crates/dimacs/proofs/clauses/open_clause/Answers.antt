@@ -1,16 +1,10 @@
 -- `open_clause` reads to the closing 0. The loop: what is to be read is what is left to be read, with the literals so far. The measure is
 -- what is left of the text, since a literal has bytes. Assumes nothing.
-use mathlib.Core.Path.{◌≡◌, refl, sym, ◌∙◌}
-use Prim.Native.Nat.{◌≤◌, ◌<◌, ◌-◌}
+use mathlib.Core.Path.{refl, sym, ◌∙◌}
+use Prim.Native.Nat.{◌-◌}
 use native.Mathlib.Omega.{arith}
-use lib.Seq.{slice}
-use lib.ListN.{length}
-use borrow.Author.Rules.{rules}
-use Rattle.words.specs.Sets.{no_literals}
-use Rattle.dimacs.specs.declared.Token.TheVariants.{Literal}
-use Rattle.dimacs.specs.Numbers.{token_of}
-use Rattle.dimacs.proofs.Tokens.{IsLiteral, literal-bounds}
-use Rattle.dimacs.proofs.OpenClause.{rest_of, rest-open, rest-closing, rest-wrong, rest-literal, literal-moves}
+use Rattle.dimacs.proofs.Tokens.{literal-bounds}
+use Rattle.dimacs.proofs.OpenClause.{rest-open, rest-closing, rest-wrong, rest-literal, literal-moves}
 use Rattle.dimacs.proofs.clauses.open_clause.Goals as goal
 
 pub loop-at-init : goal.loop-at-init
@@ -29,10 +23,15 @@ returns-in-Wrong c = sym
     (sym c.read_token.ensures ∙ c.in-Wrong.is))
 
 pub with_literal-literals-requires : goal.with_literal-literals-requires
-with_literal-literals-requires c = let l = literal-bounds _ _ _ _ (sym c.read_token.ensures ∙ c.in-Literal.is) in (l.least, omega (arith, l.most))
+with_literal-literals-requires c = let l = literal-bounds _ _ _ _ (sym c.read_token.ensures ∙ c.in-Literal.is) in
+    (l.least, omega (arith, l.most))
 
 pub loop-at-smaller : goal.loop-at-smaller
-loop-at-smaller c = omega (arith, literal-moves _ _ _ _ _ _ c.loop-at-test.true c.past_class-end.ensures.value (sym c.read_token.ensures ∙ c.in-Literal.is))
+loop-at-smaller c = omega (
+  arith,
+  literal-moves _ _ _ _ _ _ c.loop-at-test.true c.past_class-end.ensures.value
+      (sym c.read_token.ensures ∙ c.in-Literal.is),
+)
 
 pub loop-at-preserved : goal.loop-at-preserved
 loop-at-preserved c = (

@@ -1,16 +1,10 @@
 -- `open_clause` reads to the closing 0. The loop: what is to be read is what is left to be read, with the literals so far. The measure is
 -- what is left of the text, since a literal has bytes. Assumes nothing.
-use mathlib.Core.Path.{◌≡◌, refl, sym, ◌∙◌}
-use Prim.Native.Nat.{◌≤◌, ◌<◌, ◌-◌}
-use native.Mathlib.Omega.{arith}
-use lib.Seq.{slice}
+use mathlib.Core.Path.{◌≡◌}
+use Prim.Native.Nat.{◌≤◌, ◌-◌}
 use lib.ListN.{length}
-use borrow.Author.Rules.{rules}
 use Rattle.words.specs.Sets.{no_literals}
-use Rattle.dimacs.specs.declared.Token.TheVariants.{Literal}
-use Rattle.dimacs.specs.Numbers.{token_of}
-use Rattle.dimacs.proofs.Tokens.{IsLiteral, literal-bounds}
-use Rattle.dimacs.proofs.OpenClause.{rest_of, rest-open, rest-closing, rest-wrong, rest-literal, literal-moves}
+use Rattle.dimacs.proofs.OpenClause.{rest_of}
 use Rattle.dimacs.proofs.clauses.open_clause.Given as goal
 
 abbrev pub invariant-loop-at : goal.invariant-loop-at

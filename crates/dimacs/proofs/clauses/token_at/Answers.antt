@@ -1,7 +1,6 @@
 -- `token_at` judges the bytes up to the end of the token. Assumes nothing.
 use mathlib.Core.Path.{ap, ◌∙◌}
 use lib.Seq.{slice}
-use borrow.Author.Rules.{rules}
 use Rattle.dimacs.specs.Numbers.{token_of}
 use Rattle.dimacs.proofs.clauses.token_at.Goals as goal
 

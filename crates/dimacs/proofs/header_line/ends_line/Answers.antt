@@ -1,6 +1,5 @@
 -- `ends_line`: the run of spaces, tabs and CR behind the word ends where the line ends. Assumes nothing.
 use mathlib.Core.Path.{sym}
-use borrow.Author.Rules.{rules}
 use Rattle.dimacs.specs.Header.{ends_line}
 use Rattle.dimacs.proofs.header_line.ends_line.Goals as goal
 

@@ -1,7 +1,6 @@
 -- `is_passed`: the line is blank, or its first byte is `c`. Assumes nothing.
 use mathlib.Core.Path.{sym}
 use borrow.Author.Tests.{eq-eqb, ne_eqb}
-use borrow.Author.Rules.{rules}
 use Rattle.dimacs.specs.Header.{is_passed}
 use Rattle.dimacs.proofs.header_line.is_passed.Goals as goal
 

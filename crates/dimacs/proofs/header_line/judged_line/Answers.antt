@@ -3,12 +3,10 @@
 use mathlib.Core.Path.{◌≡◌, sym, ◌∙◌}
 use mathlib.Core.Bool.{true}
 use mathlib.Core.List.{List}
-use Prim.Native.Nat.{ℕ, ◌≤◌, ◌<◌, ◌-◌, ◌+◌}
+use Prim.Native.Nat.{ℕ, ◌<◌, ◌-◌, ◌+◌}
 use Rattle.dimacs.specs.Text.{line_end}
 use native.Mathlib.Omega.{arith}
 use lib.ListN.{length}
-use borrow.Author.Rules.{rules}
-use borrow.Author.Tests.{not-true, not-false}
 use Rattle.dimacs.specs.Header.{judged_from, is_passed}
 use Rattle.dimacs.proofs.Lines.{judged-fuel, judged-end, judged-stop, judged-go}
 use Rattle.dimacs.proofs.header_line.judged_line.Goals as goal
@@ -29,10 +27,22 @@ returns-then-not-is_passed c = record {
 }
 
 pub returns-then-end-s : goal.returns-then-end-s
-returns-then-end-s c = record { value = c.if-end-s.true ∙ sym (passed _ _ _ c.loop-at.invariant.1 c.loop-at-test.true (sym c.is_passed.ensures ∙ c.if-not-is_passed.false) c.past_class-end.ensures.value ∙ judged-end _ _ _ (omega arith)); upper_bound = omega arith }
+returns-then-end-s c = record {
+  value = c.if-end-s.true ∙ sym
+      (passed _ _ _ c.loop-at.invariant.1 c.loop-at-test.true (sym c.is_passed.ensures ∙ c.if-not-is_passed.false)
+      c.past_class-end.ensures.value ∙ judged-end _ _ _ (omega arith));
+  upper_bound = omega arith;
+}
 
 pub loop-at-preserved : goal.loop-at-preserved
-loop-at-preserved c = (omega arith, passed _ _ _ c.loop-at.invariant.1 c.loop-at-test.true (sym c.is_passed.ensures ∙ c.if-not-is_passed.false) c.past_class-end.ensures.value)
+loop-at-preserved c = (
+  omega arith,
+  passed _ _ _ c.loop-at.invariant.1 c.loop-at-test.true
+      (sym c.is_passed.ensures ∙ c.if-not-is_passed.false) c.past_class-end.ensures.value,
+)
 
 pub returns : goal.returns
-returns c = record { value = omega (arith, c.loop-at-test.false) ∙ sym (c.loop-at.invariant.1 ∙ judged-end _ _ _ c.loop-at-test.false); upper_bound = omega arith }
+returns c = record {
+  value = omega (arith, c.loop-at-test.false) ∙ sym (c.loop-at.invariant.1 ∙ judged-end _ _ _ c.loop-at-test.false);
+  upper_bound = omega arith;
+}

@@ -1,13 +1,9 @@
 -- `judged_line` finds the first line that is neither blank nor a comment. The loop: the line to be found is the one to be found
 -- from `at` on. The measure is what is left of the text. Assumes nothing.
-use mathlib.Core.Path.{◌≡◌, sym, ◌∙◌}
-use Prim.Native.Nat.{◌≤◌, ◌-◌, ◌+◌}
-use native.Mathlib.Omega.{arith}
+use mathlib.Core.Path.{◌≡◌}
+use Prim.Native.Nat.{◌≤◌, ◌-◌}
 use lib.ListN.{length}
-use borrow.Author.Rules.{rules}
-use borrow.Author.Tests.{not-true, not-false}
 use Rattle.dimacs.specs.Header.{judged_from}
-use Rattle.dimacs.proofs.Lines.{judged-fuel, judged-end, judged-stop, judged-go}
 use Rattle.dimacs.proofs.header_line.judged_line.Given as goal
 
 abbrev pub invariant-loop-at : goal.invariant-loop-at

@@ -1,7 +1,6 @@
 -- `next_word` is the run of the word and then the run of spaces. Assumes nothing.
 use mathlib.Core.Path.{ap, ◌∙◌}
 use native.Mathlib.Omega.{arith}
-use borrow.Author.Rules.{rules}
 use Rattle.dimacs.specs.Text.{past, is_space}
 use Rattle.dimacs.specs.Header.{next_word}
 use Rattle.dimacs.proofs.header_line.next_word.Goals as goal

@@ -2,7 +2,6 @@
 use mathlib.Core.Path.{ap, sym}
 use native.Mathlib.Omega.{arith}
 use borrow.Author.Tests.{lt-ltb, le-ltb}
-use borrow.Author.Rules.{rules}
 use Rattle.dimacs.specs.declared.Header.TheVariants.{Improper}
 use Rattle.dimacs.specs.Header.{header}
 use Rattle.dimacs.proofs.header_line.read_header.Goals as goal

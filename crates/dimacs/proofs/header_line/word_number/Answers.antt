@@ -1,7 +1,6 @@
 -- `word_number` reads the number of the bytes up to the end of the word. Assumes nothing.
 use mathlib.Core.Path.{ap, ◌∙◌}
 use lib.Seq.{slice}
-use borrow.Author.Rules.{rules}
 use Rattle.dimacs.specs.Inner.{natural_of}
 use Rattle.dimacs.proofs.header_line.word_number.Goals as goal
 

@@ -1,7 +1,6 @@
 -- `read_natural`: no bytes, digits, `0`, or more after a 0, each by the law of that case. Assumes nothing.
 use mathlib.Core.Path.{sym, ◌∙◌}
 use native.Mathlib.Omega.{arith}
-use borrow.Author.Rules.{rules}
 use Rattle.dimacs.proofs.Digits.{natural-empty, natural-other, natural-alone, natural-longer}
 use Rattle.dimacs.proofs.numbers.read_natural.Goals as goal
 

@@ -2,7 +2,6 @@
 use mathlib.Core.Bool.{true, false}
 use mathlib.Core.Path.{sym, ap, ◌∙◌}
 use native.Mathlib.Omega.{arith}
-use borrow.Author.Rules.{rules}
 use Rattle.dimacs.specs.Inner.{signed_token}
 use Rattle.dimacs.proofs.Tokens.{token-empty, token-signed, token-unsigned}
 use Rattle.dimacs.proofs.numbers.read_token.Goals as goal

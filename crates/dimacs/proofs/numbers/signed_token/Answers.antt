@@ -1,6 +1,5 @@
 -- `signed_token`, test by test. Assumes nothing.
 use borrow.Author.Tests.{lt-ltb, le-ltb, ne_eqb}
-use borrow.Author.Rules.{rules}
 use Rattle.dimacs.proofs.numbers.signed_token.Goals as goal
 
 pub returns-then-variables-v : goal.returns-then-variables-v

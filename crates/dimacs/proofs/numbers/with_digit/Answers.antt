@@ -1,7 +1,6 @@
 -- `with_digit` is the number with one digit more, cut off above 1,024. Assumes nothing.
 use mathlib.Core.Path.{sym}
 use native.Mathlib.Omega.{arith}
-use borrow.Author.Rules.{rules}
 use Rattle.dimacs.proofs.Digits.{capped-over, capped-under}
 use Rattle.dimacs.proofs.numbers.with_digit.Goals as goal
 

@@ -1,7 +1,6 @@
 -- `admits` asks the test of each class. Assumes nothing.
 use mathlib.Core.Path.{ap}
 use mathlib.Core.Bool.{not}
-use borrow.Author.Rules.{rules}
 use Rattle.dimacs.proofs.text.admits.Goals as goal
 
 pub returns-in-Space : goal.returns-in-Space

@@ -1,6 +1,5 @@
 -- `is_blank` is `is_space` or CR. Assumes nothing.
 use mathlib.Core.Path.{sym}
-use borrow.Author.Rules.{rules}
 use Rattle.dimacs.proofs.text.is_blank.Goals as goal
 
 pub returns-then-is_space : goal.returns-then-is_space

@@ -1,5 +1,4 @@
 -- `is_comment` tests the byte, and what stands before it. Assumes nothing.
-use borrow.Author.Rules.{rules}
 use Rattle.dimacs.proofs.Between.{at-end, other_byte, at-start, behind}
 use Rattle.dimacs.proofs.text.is_comment.Goals as goal
 

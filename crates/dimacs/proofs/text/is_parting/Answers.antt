@@ -1,6 +1,5 @@
 -- `is_parting` is `is_blank` or LF. Assumes nothing.
 use mathlib.Core.Path.{sym}
-use borrow.Author.Rules.{rules}
 use Rattle.dimacs.proofs.text.is_parting.Goals as goal
 
 pub returns-then-is_blank : goal.returns-then-is_blank

@@ -1,13 +1,8 @@
 -- `past_class` ends where the run of the class ends. The loop: what is left of the run is the run. The measure is what is left
 -- of the text. Assumes nothing.
-use mathlib.Core.Path.{◌≡◌, refl, sym, ◌∙◌}
-use Prim.Native.Nat.{◌≤◌, ◌-◌}
+use mathlib.Core.Path.{refl, sym, ◌∙◌}
+use Prim.Native.Nat.{◌-◌}
 use native.Mathlib.Omega.{arith}
-use lib.ListN.{length}
-use borrow.Author.Rules.{rules}
-use borrow.Author.Tests.{not-true, not-false}
-use Rattle.dimacs.specs.Text.{past}
-use Rattle.dimacs.specs.Inner.{admitted}
 use Rattle.dimacs.proofs.Runs.{past_end, past_stop, past-go}
 use Rattle.dimacs.proofs.text.past_class.Goals as goal
 

@@ -1,12 +1,9 @@
 -- `skip_between` passes what lies between two tokens. The loop: what is to be passed is what is left to be passed. The measure is what is
 -- left of the text. Assumes nothing.
-use mathlib.Core.Path.{◌≡◌, sym, ◌∙◌, ap}
-use Prim.Native.Nat.{◌≤◌, ◌-◌}
+use mathlib.Core.Path.{sym, ◌∙◌, ap}
+use Prim.Native.Nat.{◌-◌}
 use native.Mathlib.Omega.{arith}
-use lib.ListN.{length}
-use borrow.Author.Rules.{rules}
-use borrow.Author.Tests.{not-true, not-false}
-use Rattle.dimacs.specs.Text.{is_comment, between, line_end}
+use Rattle.dimacs.specs.Text.{is_comment, line_end}
 use Rattle.dimacs.proofs.Between.{left, between_left, left-comment, between-stop, comment-moves}
 use Rattle.dimacs.proofs.text.skip_between.Goals as goal
 
@@ -15,7 +12,12 @@ loop-at-init c = (omega arith, omega arith, between_left _ _)
 
 pub returns-then-not-is_comment : goal.returns-then-not-is_comment
 returns-then-not-is_comment c =
-    let none = ap (is_comment _) (sym c.past_class-first.ensures.value) ∙ sym c.is_comment.ensures ∙ c.if-not-is_comment.true in record { value = sym (c.loop-at.invariant.2 ∙ between-stop _ _ _ none ∙ sym c.past_class-first.ensures.value); lower_bound = (omega (arith, c.loop-at.invariant.0, c.past_class-first.ensures.lower_bound.0), c.past_class-first.ensures.lower_bound.1) }
+    let none = ap (is_comment _) (sym c.past_class-first.ensures.value) ∙ sym c.is_comment.ensures ∙ c.if-not-is_comment.true in
+    record {
+      value = sym (c.loop-at.invariant.2 ∙ between-stop _ _ _ none ∙ sym c.past_class-first.ensures.value);
+      lower_bound =
+          (omega (arith, c.loop-at.invariant.0, c.past_class-first.ensures.lower_bound.0), c.past_class-first.ensures.lower_bound.1);
+    }
 
 pub loop-at-smaller : goal.loop-at-smaller
 loop-at-smaller c =

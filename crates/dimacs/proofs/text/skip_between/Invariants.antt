@@ -1,13 +1,10 @@
 -- `skip_between` passes what lies between two tokens. The loop: what is to be passed is what is left to be passed. The measure is what is
 -- left of the text. Assumes nothing.
-use mathlib.Core.Path.{◌≡◌, sym, ◌∙◌, ap}
+use mathlib.Core.Path.{◌≡◌}
 use Prim.Native.Nat.{◌≤◌, ◌-◌}
-use native.Mathlib.Omega.{arith}
 use lib.ListN.{length}
-use borrow.Author.Rules.{rules}
-use borrow.Author.Tests.{not-true, not-false}
-use Rattle.dimacs.specs.Text.{is_comment, between, line_end}
-use Rattle.dimacs.proofs.Between.{left, between_left, left-comment, between-stop, comment-moves}
+use Rattle.dimacs.specs.Text.{between}
+use Rattle.dimacs.proofs.Between.{left}
 use Rattle.dimacs.proofs.text.skip_between.Given as goal
 
 abbrev pub invariant-loop-at : goal.invariant-loop-at

@@ -1,5 +1,4 @@
 -- `entry_node` reads entries 0 and 1 as the constants, the others from the scratch list. Assumes nothing.
-use borrow.Author.Rules.{rules}
 use lib.ListN.{take}
 use Rattle.entries.proofs.Entries.{node-constant, node_at}
 use Rattle.entries.proofs.node.entry_node.Goals as goal

@@ -2,7 +2,6 @@
 use mathlib.Core.Path.{◌≡◌, refl, ap, ap₂, ◌∙◌, subst}
 use mathlib.Core.List.{List, []}
 use Prim.Native.Nat.{ℕ, ◌≤◌, ◌<◌}
-use borrow.Author.Rules.{rules}
 use native.Mathlib.Omega.{arith}
 use lib.ListN.{length, length-set}
 use Rattle.table.specs.Nodes.{put}
@@ -38,13 +37,15 @@ module _ (s : lts.Start tie.the-claims reads.Pre reads.Post) (ms ss : List ℕ) 
 
 -- the record is not refused
 module _ (c : lts.Past-After-known_told2 tie.the-claims reads.Pre reads.Post) (ms ss : List ℕ) where
-  tested : NodeTested c.args.variables (state c.before.before.before.before.before.before.before.before ms ss) c.args.b (Fits c.in-Fits.low c.in-Fits.high)
+  tested : NodeTested c.args.variables (state c.before.before.before.before.before.before.before.before ms ss) c.args.b
+      (Fits c.in-Fits.low c.in-Fits.high)
   tested =
       subst (NodeTested c.args.variables (state c.before.before.before.before.before.before.before.before ms ss) c.args.b) c.in-Fits.is
       (c.node_test.ensures c.args.heads.now c.args.links.now ms ss)
 
   few : c.args.st.entries < 4096
-  few = few-there (lent c.before.before.before.before.before.before.before.before ms ss) c.args.st (room c.before.before.before.before.before.before.before.before ms ss)
+  few = few-there (lent c.before.before.before.before.before.before.before.before ms ss) c.args.st
+      (room c.before.before.before.before.before.before.before.before ms ss)
       (node-fits c.args.variables (state c.before.before.before.before.before.before.before.before ms ss) c.args.b tested.0).few
 
 -- what placing the node leaves
@@ -53,17 +54,31 @@ module _ (c : lts.After-put tie.the-claims reads.Pre reads.Post) (ms ss : List �
   outcome = outcome_of c.put-p.new.vars c.put-p.new.lows c.put-p.new.highs c.put-p.new.heads
       c.put-p.new.links c.put-p.result
 
-  made : outcome ≡ written (size (before c.before.before.before.before.before.before.before.before.before.before.before.before.before.before ms ss))
-      (put (size (before c.before.before.before.before.before.before.before.before.before.before.before.before.before.before ms ss)) (nodes_of (before c.before.before.before.before.before.before.before.before.before.before.before.before.before.before ms ss)) c.args.b.variable
-      (entry_node (state c.before.before.before.before.before.before.before.before.before.before.before.before.before.before ms ss) c.args.b.low.0) (entry_node (state c.before.before.before.before.before.before.before.before.before.before.before.before.before.before ms ss) c.args.b.high.0))
+  made : outcome ≡ written (size (before c.before.before.before.before.before.before.before.before.before.before.before.before.before.before
+      ms ss))
+      (put (size (before c.before.before.before.before.before.before.before.before.before.before.before.before.before.before ms ss))
+      (nodes_of (before c.before.before.before.before.before.before.before.before.before.before.before.before.before.before ms ss))
+      c.args.b.variable
+      (entry_node (state c.before.before.before.before.before.before.before.before.before.before.before.before.before.before ms ss)
+      c.args.b.low.0) (entry_node
+      (state c.before.before.before.before.before.before.before.before.before.before.before.before.before.before ms ss)
+      c.args.b.high.0))
   made =
       c.put-p.ensures
-      ∙ ap₂ (λ (l h : ℕ). written (size (before c.before.before.before.before.before.before.before.before.before.before.before.before.before.before ms ss))
-      (put (size (before c.before.before.before.before.before.before.before.before.before.before.before.before.before.before ms ss)) (nodes_of (before c.before.before.before.before.before.before.before.before.before.before.before.before.before.before ms ss)) c.args.b.variable l h))
+      ∙ ap₂ (λ (l h : ℕ). written (size (before
+      c.before.before.before.before.before.before.before.before.before.before.before.before.before.before ms ss))
+      (put (size (before c.before.before.before.before.before.before.before.before.before.before.before.before.before.before ms ss))
+      (nodes_of (before c.before.before.before.before.before.before.before.before.before.before.before.before.before.before ms ss))
+      c.args.b.variable l h))
       (tested c.before.before.before.before.before.before ms ss).1 (tested c.before.before.before.before.before.before ms ss).2
 
 pub node_test-requires : goal.node_test-requires
-node_test-requires c = (good-readable (before c.before.before.before.before.before.before.before [] []) c.requires.good, c.requires.inside, c.requires.few, c.requires.room)
+node_test-requires c = (
+  good-readable (before c.before.before.before.before.before.before.before [] []) c.requires.good,
+  c.requires.inside,
+  c.requires.few,
+  c.requires.room,
+)
 
 pub put-p-requires : goal.put-p-requires
 put-p-requires c = c.requires.good
@@ -87,15 +102,21 @@ pub shape_of-scratch-then-p : goal.shape_of-scratch-then-p
 shape_of-scratch-then-p c = refl
 
 pub returns-then-p : goal.returns-then-p
-returns-then-p c = λ ms ss H. node-full _ (lent c.before.before.before.before.before.before.before.before.before.before.before.before.before.before.before.before.before.before.before.before.before.before.before.before.before.before.before ms ss) c.args.st c.args.b H
+returns-then-p c = λ ms ss H. node-full _ (lent
+    c.before.before.before.before.before.before.before.before.before.before.before.before.before.before.before.before.before.before.before.before.before.before.before.before.before.before.before ms ss) c.args.st c.args.b H
     (tested c.before.before.before.before.before.before.before.before.before.before.before.before.before.before.before.before.before.before.before ms ss).0 (outcome c.before.before.before.before.before.before.before.before.before.before.before.before.before ms ss) (made c.before.before.before.before.before.before.before.before.before.before.before.before.before ms ss) _
     c.greater-peak.ensures c.if-p.true
 
 pub offset_bounds-scratch-entries : goal.offset_bounds-scratch-entries
-offset_bounds-scratch-entries c = omega (arith, few c.before.before.before.before.before.before.before.before.before.before.before.before.before.before.before.before.before.before.before.before [] [])
+offset_bounds-scratch-entries c = omega (
+  arith,
+  few
+      c.before.before.before.before.before.before.before.before.before.before.before.before.before.before.before.before.before.before.before.before [] [],
+)
 
 pub bounds-scratch-entries : goal.bounds-scratch-entries
-bounds-scratch-entries c = omega (arith, few c.before.before.before.before.before.before.before.before.before.before.before.before.before.before.before.before.before.before.before.before [] [], c.requires.room)
+bounds-scratch-entries c = omega
+    (arith, few c.before.before.before.before.before.before.before.before.before.before.before.before.before.before.before.before.before.before.before.before [] [], c.requires.room)
 
 pub with_entry-requires : goal.with_entry-requires
 with_entry-requires c = c.requires.few
@@ -114,7 +135,8 @@ shape_of-scratch-in-Refused c = refl
 
 pub returns-in-Refused : goal.returns-in-Refused
 returns-in-Refused c = λ ms ss H.
-    let told = subst (NodeTested c.args.variables (state c.before.before.before.before.before.before.before.before.before ms ss) c.args.b) c.in-Refused.is
+    let told = subst (NodeTested c.args.variables (state c.before.before.before.before.before.before.before.before.before ms ss) c.args.b)
+    c.in-Refused.is
     (c.node_test.ensures c.args.heads.now c.args.links.now ms ss) in
     node-refused _ (lent c.before.before.before.before.before.before.before.before.before ms ss) c.args.st c.args.b H _ told.0 told.1
 
@@ -138,8 +160,11 @@ shape_of-scratch-else-p c = length-set c.args.scratch.now c.args.st.entries
     c.put-p.result.node.0
 
 pub returns-else-p : goal.returns-else-p
-returns-else-p c = λ ms ss H. node_made _ (lent c.before.before.before.before.before.before.before.before.before.before.before.before.before.before.before.before.before.before.before.before.before.before.before.before.before.before.before.before.before ms ss) c.args.st c.args.b H
+returns-else-p c = λ ms ss H. node_made _ (lent
+    c.before.before.before.before.before.before.before.before.before.before.before.before.before.before.before.before.before.before.before.before.before.before.before.before.before.before.before.before.before ms ss) c.args.st c.args.b H
     (tested c.before.before.before.before.before.before.before.before.before.before.before.before.before.before.before.before.before.before.before.before.before ms ss).0 (outcome c.before.before.before.before.before.before.before.before.before.before.before.before.before.before.before ms ss) (made c.before.before.before.before.before.before.before.before.before.before.before.before.before.before.before ms ss)
     c.if-p.false c.with_entry.result
-    (c.with_entry.ensures ∙ ap (state_with_entry c.args.st (outcome c.before.before.before.before.before.before.before.before.before.before.before.before.before.before.before ms ss).table.count)
+    (c.with_entry.ensures ∙ ap (state_with_entry c.args.st
+    (outcome c.before.before.before.before.before.before.before.before.before.before.before.before.before.before.before ms
+    ss).table.count)
     c.greater-peak.ensures)

@@ -31,19 +31,26 @@ module _ (s : lts.Start tie.the-claims reads.Pre reads.Post) (ds ks ms ss : List
 -- the tests of the number of entries and of the variable are passed
 module _ (c : lts.Else3 tie.the-claims reads.Pre reads.Post) (ds ks ms ss : List ℕ) where
   few : leb 4096 (length (state c.before.before.before.before.before.before.before ds ks ms ss).entries) ≡ false
-  few = few-entries (lent c.before.before.before.before.before.before.before ds ks ms ss) c.args.st (room c.before.before.before.before.before.before.before ds ks ms ss) c.if-entries-ge4096.false
+  few = few-entries (lent c.before.before.before.before.before.before.before ds ks ms ss) c.args.st
+      (room c.before.before.before.before.before.before.before ds ks ms ss) c.if-entries-ge4096.false
 
   variable : is_variable c.args.variables c.args.b.variable ≡ true
   variable = is-variable _ _ (omega (arith, c.if-v-lt1.false)) c.if-variables-v.false
 
 -- both entries are there
 module _ (c : lts.Else5 tie.the-claims reads.Pre reads.Post) (ds ks ms ss : List ℕ) where
-  low : is_entry (state c.before.before.before.before.before.before.before.before.before.before.before.before.before ds ks ms ss) c.args.b.low.0 ≡ true
-  low = entry-told (lent c.before.before.before.before.before.before.before.before.before.before.before.before.before ds ks ms ss) c.args.st (room c.before.before.before.before.before.before.before.before.before.before.before.before.before ds ks ms ss) _ _ _ c.is_entry.ensures
+  low : is_entry (state c.before.before.before.before.before.before.before.before.before.before.before.before.before ds ks ms ss)
+      c.args.b.low.0 ≡ true
+  low = entry-told (lent c.before.before.before.before.before.before.before.before.before.before.before.before.before ds ks ms ss) c.args.st
+      (room c.before.before.before.before.before.before.before.before.before.before.before.before.before ds ks ms ss) _ _ _
+      c.is_entry.ensures
       (not-false _ c.if-not-is_entry.false-raw)
 
-  high : is_entry (state c.before.before.before.before.before.before.before.before.before.before.before.before.before ds ks ms ss) c.args.b.high.0 ≡ true
-  high = entry-told (lent c.before.before.before.before.before.before.before.before.before.before.before.before.before ds ks ms ss) c.args.st (room c.before.before.before.before.before.before.before.before.before.before.before.before.before ds ks ms ss) _ _ _ c.is_entry-2.ensures
+  high : is_entry (state c.before.before.before.before.before.before.before.before.before.before.before.before.before ds ks ms ss)
+      c.args.b.high.0 ≡ true
+  high = entry-told (lent c.before.before.before.before.before.before.before.before.before.before.before.before.before ds ks ms ss)
+      c.args.st (room c.before.before.before.before.before.before.before.before.before.before.before.before.before ds ks ms ss) _ _ _
+      c.is_entry-2.ensures
       (not-false _ c.if-not-is_entry-2.false-raw)
 
   low-there : c.args.b.low.0 < c.args.st.entries + 2
@@ -68,18 +75,25 @@ module _ (c : lts.After-entry_node2 tie.the-claims reads.Pre reads.Post) where
   high-inside = inside c.args.b.high.0 _ (high-there c.before.before.before.before [] [] [] []) c.entry_node-high.ensures
 
 pub returns-then-entries-ge4096 : goal.returns-then-entries-ge4096
-returns-then-entries-ge4096 c = λ ds ks ms ss. (node-21 _ _ _ (full-entries (lent c.before.before.before.before.before.before ds ks ms ss) c.args.st (room c.before.before.before.before.before.before ds ks ms ss) c.if-entries-ge4096.true), λ e. omega (arith, e))
+returns-then-entries-ge4096 c = λ ds ks ms ss. (
+  node-21 _ _ _
+      (full-entries (lent c.before.before.before.before.before.before ds ks ms ss) c.args.st
+      (room c.before.before.before.before.before.before ds ks ms ss) c.if-entries-ge4096.true),
+  λ e. omega (arith, e),
+)
 
 pub returns-then-v-lt1 : goal.returns-then-v-lt1
 returns-then-v-lt1 c = λ ds ks ms ss. (
-  node-12 _ _ _ (few-entries (lent c.before.before.before.before.before.before.before ds ks ms ss) c.args.st (room c.before.before.before.before.before.before.before ds ks ms ss) c.if-entries-ge4096.false)
+  node-12 _ _ _ (few-entries (lent c.before.before.before.before.before.before.before ds ks ms ss) c.args.st
+      (room c.before.before.before.before.before.before.before ds ks ms ss) c.if-entries-ge4096.false)
       (variable-zero _ _ c.if-v-lt1.true),
   λ e. omega (arith, e),
 )
 
 pub returns-then-variables-v : goal.returns-then-variables-v
 returns-then-variables-v c = λ ds ks ms ss. (
-  node-12 _ _ _ (few-entries (lent c.before.before.before.before.before.before.before.before ds ks ms ss) c.args.st (room c.before.before.before.before.before.before.before.before ds ks ms ss) c.if-entries-ge4096.false)
+  node-12 _ _ _ (few-entries (lent c.before.before.before.before.before.before.before.before ds ks ms ss) c.args.st
+      (room c.before.before.before.before.before.before.before.before ds ks ms ss) c.if-entries-ge4096.false)
       (variable-beyond _ _ (omega (arith, c.if-v-lt1.false)) c.if-variables-v.true),
   λ e. omega (arith, e),
 )
@@ -90,7 +104,8 @@ is_entry-requires c = c.requires.2
 pub returns-then-not-is_entry : goal.returns-then-not-is_entry
 returns-then-not-is_entry c = λ ds ks ms ss. (
   node-13-low _ _ _ (few c.before.before.before.before ds ks ms ss) (variable c.before.before.before.before ds ks ms ss)
-      (entry-told (lent c.before.before.before.before.before.before.before.before.before.before.before ds ks ms ss) c.args.st (room c.before.before.before.before.before.before.before.before.before.before.before ds ks ms ss) _ _ _ c.is_entry.ensures
+      (entry-told (lent c.before.before.before.before.before.before.before.before.before.before.before ds ks ms ss) c.args.st
+      (room c.before.before.before.before.before.before.before.before.before.before.before ds ks ms ss) _ _ _ c.is_entry.ensures
       (not-true _ c.if-not-is_entry.true-raw)),
   λ e. omega (arith, e),
 )
@@ -100,25 +115,38 @@ is_entry-requires-2 c = c.requires.2
 
 pub returns-then-not-is_entry-2 : goal.returns-then-not-is_entry-2
 returns-then-not-is_entry-2 c = λ ds ks ms ss. (
-  node-13-high _ _ _ (few c.before.before.before.before.before.before.before ds ks ms ss) (variable c.before.before.before.before.before.before.before ds ks ms ss)
-      (entry-told (lent c.before.before.before.before.before.before.before.before.before.before.before.before.before.before ds ks ms ss) c.args.st (room c.before.before.before.before.before.before.before.before.before.before.before.before.before.before ds ks ms ss) _ _ _ c.is_entry-2.ensures
+  node-13-high _ _ _ (few c.before.before.before.before.before.before.before ds ks ms ss)
+      (variable c.before.before.before.before.before.before.before ds ks ms ss)
+      (entry-told (lent c.before.before.before.before.before.before.before.before.before.before.before.before.before.before ds ks ms ss)
+      c.args.st (room c.before.before.before.before.before.before.before.before.before.before.before.before.before.before ds ks ms ss) _
+      _ _ c.is_entry-2.ensures
       (not-true _ c.if-not-is_entry-2.true-raw)),
   λ e. omega (arith, e),
 )
 
 pub entry_node-low-requires : goal.entry_node-low-requires
-entry_node-low-requires c = (room c.before.before.before.before.before.before.before.before.before.before.before.before.before.before.before [] [] [] [], low-there c.before.before [] [] [] [])
+entry_node-low-requires c = (
+  room c.before.before.before.before.before.before.before.before.before.before.before.before.before.before.before
+      [] [] [] [],
+  low-there c.before.before [] [] [] [],
+)
 
 pub entry_node-high-requires : goal.entry_node-high-requires
-entry_node-high-requires c = (room c.before.before.before.before.before.before.before.before.before.before.before.before.before.before.before.before.before [] [] [] [], high-there c.before.before.before.before [] [] [] [])
+entry_node-high-requires c = (
+  room c.before.before.before.before.before.before.before.before.before.before.before.before.before.before.before.before.before [] [] []
+      [],
+  high-there c.before.before.before.before [] [] [] [],
+)
 
 pub stands_above-requires : goal.stands_above-requires
 stands_above-requires c = (c.requires.0.lows, c.requires.0.highs, omega (arith, low-inside c.before, c.requires.0.within))
 
 pub returns-then-not-stands_above : goal.returns-then-not-stands_above
 returns-then-not-stands_above c = λ ds ks ms ss. (
-  node-14-low _ _ _ (few c.before.before.before.before.before.before.before.before.before.before.before.before.before ds ks ms ss) (variable c.before.before.before.before.before.before.before.before.before.before.before.before.before ds ks ms ss)
-      (low c.before.before.before.before.before.before.before ds ks ms ss) (high c.before.before.before.before.before.before.before ds ks ms ss)
+  node-14-low _ _ _ (few c.before.before.before.before.before.before.before.before.before.before.before.before.before ds ks ms ss)
+      (variable c.before.before.before.before.before.before.before.before.before.before.before.before.before ds ks ms ss)
+      (low c.before.before.before.before.before.before.before ds ks ms ss)
+      (high c.before.before.before.before.before.before.before ds ks ms ss)
       (above-is (lent c.before.before.before.before.before.before.before.before.before.before.before.before.before.before.before.before.before.before.before.before ds ks ms ss) c.args.st _ _ c.entry_node-low.ensures _ (low-inside c.before.before.before) _ _
       c.stands_above.ensures (not-true _ c.if-not-stands_above.true-raw)),
   λ e. omega (arith, e),
@@ -129,8 +157,11 @@ stands_above-requires-2 c = (c.requires.0.lows, c.requires.0.highs, omega (arith
 
 pub returns-then-not-stands_above-2 : goal.returns-then-not-stands_above-2
 returns-then-not-stands_above-2 c = λ ds ks ms ss. (
-  node-14-high _ _ _ (few c.before.before.before.before.before.before.before.before.before.before.before.before.before.before.before ds ks ms ss) (variable c.before.before.before.before.before.before.before.before.before.before.before.before.before.before.before ds ks ms ss)
-      (low c.before.before.before.before.before.before.before.before.before ds ks ms ss) (high c.before.before.before.before.before.before.before.before.before ds ks ms ss)
+  node-14-high _ _ _ (few c.before.before.before.before.before.before.before.before.before.before.before.before.before.before.before ds ks
+      ms ss) (variable c.before.before.before.before.before.before.before.before.before.before.before.before.before.before.before ds ks ms
+      ss)
+      (low c.before.before.before.before.before.before.before.before.before ds ks ms ss)
+      (high c.before.before.before.before.before.before.before.before.before ds ks ms ss)
       (above-is (lent c.before.before.before.before.before.before.before.before.before.before.before.before.before.before.before.before.before.before.before.before.before.before ds ks ms ss) c.args.st _ _ c.entry_node-high.ensures _
       (high-inside c.before.before.before.before.before) _ _ c.stands_above-2.ensures (not-true _ c.if-not-stands_above-2.true-raw)),
   λ e. omega (arith, e),
@@ -138,13 +169,17 @@ returns-then-not-stands_above-2 c = λ ds ks ms ss. (
 
 pub returns : goal.returns
 returns c = λ ds ks ms ss. (
-  sym (node-0 _ _ _ (few c.before.before.before.before.before.before.before.before.before.before.before.before.before.before.before ds ks ms ss) (variable c.before.before.before.before.before.before.before.before.before.before.before.before.before.before.before ds ks ms ss)
-      (low c.before.before.before.before.before.before.before.before.before ds ks ms ss) (high c.before.before.before.before.before.before.before.before.before ds ks ms ss)
+  sym (node-0 _ _ _ (few c.before.before.before.before.before.before.before.before.before.before.before.before.before.before.before ds ks ms
+      ss) (variable c.before.before.before.before.before.before.before.before.before.before.before.before.before.before.before ds ks ms ss)
+      (low c.before.before.before.before.before.before.before.before.before ds ks ms ss)
+      (high c.before.before.before.before.before.before.before.before.before ds ks ms ss)
       (above-is (lent c.before.before.before.before.before.before.before.before.before.before.before.before.before.before.before.before.before.before.before.before.before.before ds ks ms ss) c.args.st _ _ c.entry_node-low.ensures _
       (low-inside c.before.before.before.before.before) _ _ c.stands_above.ensures
       (not-false _ c.if-not-stands_above.false-raw))
       (above-is (lent c.before.before.before.before.before.before.before.before.before.before.before.before.before.before.before.before.before.before.before.before.before.before ds ks ms ss) c.args.st _ _ c.entry_node-high.ensures _
       (high-inside c.before.before.before.before.before) _ _ c.stands_above-2.ensures (not-false _ c.if-not-stands_above-2.false-raw))),
-  c.entry_node-low.ensures ∙ sym (node-is-at (lent c.before.before.before.before.before.before.before.before.before.before.before.before.before.before.before.before.before.before.before.before.before.before ds ks ms ss) c.args.st c.args.b.low.0),
-  c.entry_node-high.ensures ∙ sym (node-is-at (lent c.before.before.before.before.before.before.before.before.before.before.before.before.before.before.before.before.before.before.before.before.before.before ds ks ms ss) c.args.st c.args.b.high.0),
+  c.entry_node-low.ensures ∙ sym (node-is-at (lent
+      c.before.before.before.before.before.before.before.before.before.before.before.before.before.before.before.before.before.before.before.before.before.before ds ks ms ss) c.args.st c.args.b.low.0),
+  c.entry_node-high.ensures ∙ sym (node-is-at (lent
+      c.before.before.before.before.before.before.before.before.before.before.before.before.before.before.before.before.before.before.before.before.before.before ds ks ms ss) c.args.st c.args.b.high.0),
 )

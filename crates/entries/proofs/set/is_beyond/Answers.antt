@@ -1,7 +1,6 @@
 -- `is_beyond` compares the word with 2 to the power of the header's variables. Assumes nothing.
 use native.Mathlib.Omega.{arith}
 use Rattle.entries.proofs.SetEntries.{beyond-none, beyond-bit}
-use borrow.Author.Rules.{rules}
 use Rattle.entries.proofs.set.is_beyond.Goals as goal
 
 pub returns-then-variables-ge64 : goal.returns-then-variables-ge64

@@ -1,7 +1,6 @@
 -- `set_made`: the builder of the record's kind makes its diagram. Assumes nothing.
 use Rattle.table.specs.Indexed.{Table, table_of}
 use Rattle.entries.proofs.SetEntries.{kind-made}
-use borrow.Author.Rules.{rules}
 use Rattle.entries.proofs.set.set_made.Reads as reads
 use Rattle.entries.proofs.set.set_made.Lts as lts
 use Rattle.entries.proofs.set.set_made.Tie as tie
@@ -13,9 +12,11 @@ module _ (s : lts.Start tie.the-claims reads.Pre reads.Post) where
       s.args.count
 
 pub returns-in-Parity : goal.returns-in-Parity
-returns-in-Parity c = kind-made (before c.before.before.before.before.before.before.before.before.before.before.before.before.before.before.before.before.before.before.before.before.before.before.before.before) _ _ _ c.in-Parity.is _
+returns-in-Parity c = kind-made
+    (before c.before.before.before.before.before.before.before.before.before.before.before.before.before.before.before.before.before.before.before.before.before.before.before.before) _ _ _ c.in-Parity.is _
     c.parity.ensures
 
 pub returns-in-AtLeast : goal.returns-in-AtLeast
-returns-in-AtLeast c = kind-made (before c.before.before.before.before.before.before.before.before.before.before.before.before.before.before.before.before.before.before.before.before.before.before.before) _ _ _ c.in-AtLeast.is _
+returns-in-AtLeast c = kind-made
+    (before c.before.before.before.before.before.before.before.before.before.before.before.before.before.before.before.before.before.before.before.before.before.before.before) _ _ _ c.in-AtLeast.is _
     c.at_least.ensures

@@ -9,7 +9,6 @@ use Rattle.verdict.specs.Steps.{set_diagram}
 use Rattle.state.specs.States.{Lent, lent_of, state_with_entry}
 use Rattle.entries.specs.Tests.{set_refusal}
 use Rattle.entries.proofs.SetEntries.{set-fits, made-grown, set-refused, set_full, set-made}
-use borrow.Author.Rules.{rules}
 use Rattle.entries.proofs.set.set_step.Reads as reads
 use Rattle.entries.proofs.set.set_step.Lts as lts
 use Rattle.entries.proofs.set.set_step.Tie as tie
@@ -34,13 +33,17 @@ module _ (c : lts.Else1 tie.the-claims reads.Pre reads.Post) where
 -- what making its diagram leaves
 module _ (c : lts.After-set_made tie.the-claims reads.Pre reads.Post) where
   abbrev outcome : Outcome
-  outcome = outcome_of c.set_made-p.new.vars c.set_made-p.new.lows c.set_made-p.new.highs c.set_made-p.new.heads c.set_made-p.new.links c.set_made-p.result
+  outcome = outcome_of c.set_made-p.new.vars c.set_made-p.new.lows c.set_made-p.new.highs c.set_made-p.new.heads c.set_made-p.new.links
+      c.set_made-p.result
 
-  made : outcome ≡ place_in (before c.before.before.before.before.before.before.before.before.before.before.before.before.before.before) (set_diagram 64 c.args.kind c.args.b)
+  made : outcome ≡ place_in (before c.before.before.before.before.before.before.before.before.before.before.before.before.before.before)
+      (set_diagram 64 c.args.kind c.args.b)
   made = c.set_made-p.ensures
 
-  grown : Grown (before c.before.before.before.before.before.before.before.before.before.before.before.before.before.before) (set_diagram 64 c.args.kind c.args.b) outcome
-  grown = made-grown (before c.before.before.before.before.before.before.before.before.before.before.before.before.before.before) c.requires.good c.args.kind c.args.b outcome made
+  grown : Grown (before c.before.before.before.before.before.before.before.before.before.before.before.before.before.before)
+      (set_diagram 64 c.args.kind c.args.b) outcome
+  grown = made-grown (before c.before.before.before.before.before.before.before.before.before.before.before.before.before.before)
+      c.requires.good c.args.kind c.args.b outcome made
 
 pub returns-then-number-ne0 : goal.returns-then-number-ne0
 returns-then-number-ne0 c = λ ms ss H.
@@ -49,7 +52,8 @@ returns-then-number-ne0 c = λ ms ss H.
 
 pub drop_to-requires : goal.drop_to-requires
 drop_to-requires c =
-    let m = c.before.before.before.before.before.before.before.before.before.before.before.before.before.before.before.before.before.before in ((grown c.before.before.before.before.before.before.before.before.before.before.before.before.before.before.before.before.before.before).good, m.requires.good.least, (grown c.before.before.before.before.before.before.before.before.before.before.before.before.before.before.before.before.before.before).more)
+    let m = c.before.before.before.before.before.before.before.before.before.before.before.before.before.before.before.before.before.before
+    in ((grown c.before.before.before.before.before.before.before.before.before.before.before.before.before.before.before.before.before.before).good, m.requires.good.least, (grown c.before.before.before.before.before.before.before.before.before.before.before.before.before.before.before.before.before.before).more)
 
 pub returns-then-p : goal.returns-then-p
 returns-then-p c = λ ms ss H.
@@ -61,7 +65,8 @@ pub bounds-scratch-entries : goal.bounds-scratch-entries
 bounds-scratch-entries c =
     omega (
       arith,
-      (set-fits c.args.variables c.args.st.entries c.args.kind c.args.b (none c.before.before.before.before.before.before.before.before.before.before.before.before.before.before.before.before.before.before.before.before)
+      (set-fits c.args.variables c.args.st.entries c.args.kind c.args.b
+          (none c.before.before.before.before.before.before.before.before.before.before.before.before.before.before.before.before.before.before.before.before)
           ).few,
       c.requires.room,
     )
@@ -70,4 +75,6 @@ pub returns : goal.returns
 returns c = λ ms ss H.
     set-made _ (lent c.before.before.before.before.before.before.before.before.before.before.before.before.before.before.before.before.before.before.before.before.before.before.before.before.before.before.before.before.before ms ss) c.args.st c.args.kind c.args.b H (none c.before.before.before.before.before.before.before.before.before.before.before.before.before.before.before.before.before.before.before.before.before) (outcome c.before.before.before.before.before.before.before.before.before.before.before.before.before.before.before) (made c.before.before.before.before.before.before.before.before.before.before.before.before.before.before.before)
     c.if-p.false c.with_entry.result
-    (c.with_entry.ensures ∙ ap (state_with_entry c.args.st (outcome c.before.before.before.before.before.before.before.before.before.before.before.before.before.before.before).table.count) c.greater-peak.ensures)
+    (c.with_entry.ensures ∙ ap (state_with_entry c.args.st
+    (outcome c.before.before.before.before.before.before.before.before.before.before.before.before.before.before.before).table.count)
+    c.greater-peak.ensures)

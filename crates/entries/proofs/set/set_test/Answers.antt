@@ -1,7 +1,6 @@
 -- `set_test`: the tests of a set's record in their order. Assumes nothing.
 use mathlib.Core.Path.{sym, ◌∙◌}
 use Rattle.entries.proofs.SetEntries.{refuse-21, refuse-12, refuse-29, refuse-none, any-byte}
-use borrow.Author.Rules.{rules}
 use Rattle.entries.proofs.set.set_test.Goals as goal
 
 pub returns-then-entries-ge4096 : goal.returns-then-entries-ge4096

@@ -1,10 +1,8 @@
 -- `clear_words` leaves zeros. The invariant: the places passed hold zeros (ZerosBelow). Assumes nothing.
-use mathlib.Core.Path.{◌≡◌, refl, ◌∙◌}
-use Prim.Native.Nat.{◌-◌, ◌≤◌, ◌<◌}
-use native.Mathlib.Omega.{arith}
-use lib.ListN.{length, length-set}
-use borrow.Author.Rules.{rules}
-use Rattle.table.proofs.Zeros.{ZerosBelow, cleared-one, cleared-all}
+use mathlib.Core.Path.{◌≡◌}
+use Prim.Native.Nat.{◌-◌, ◌≤◌}
+use lib.ListN.{length}
+use Rattle.table.proofs.Zeros.{ZerosBelow}
 use Rattle.explain.proofs.call.clear_words.Given as goal
 
 abbrev pub invariant-loop-i : goal.invariant-loop-i

@@ -2,7 +2,6 @@
 use mathlib.Core.Path.{sym, ap, ◌∙◌}
 use native.Mathlib.Omega.{arith}
 use lib.ListN.{length}
-use borrow.Author.Rules.{rules}
 use Rattle.table.specs.Columns.{Columns, columns_made}
 use Rattle.verdict.specs.Check.{zeros}
 use Rattle.explain.specs.Why.{why_outcome}

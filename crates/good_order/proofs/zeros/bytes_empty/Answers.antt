@@ -1,8 +1,7 @@
 -- The bytes are or-ed one after another. Assumes nothing.
 use Prim.Native.Nat.{◌-◌}
 use native.Mathlib.Omega.{arith}
-use borrow.Author.Rules.{rules}
-use Rattle.good_order.proofs.Gathered.{Gathered, gathered_none, gathered_next, gathered-all}
+use Rattle.good_order.proofs.Gathered.{gathered_none, gathered_next, gathered-all}
 use Rattle.good_order.proofs.zeros.bytes_empty.Goals as goal
 
 pub loop-i-init : goal.loop-i-init

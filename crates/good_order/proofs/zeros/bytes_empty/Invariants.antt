@@ -1,8 +1,6 @@
 -- The bytes are or-ed one after another. Assumes nothing.
 use Prim.Native.Nat.{◌-◌}
-use native.Mathlib.Omega.{arith}
-use borrow.Author.Rules.{rules}
-use Rattle.good_order.proofs.Gathered.{Gathered, gathered_none, gathered_next, gathered-all}
+use Rattle.good_order.proofs.Gathered.{Gathered}
 use Rattle.good_order.proofs.zeros.bytes_empty.Given as goal
 
 abbrev pub invariant-loop-i : goal.invariant-loop-i

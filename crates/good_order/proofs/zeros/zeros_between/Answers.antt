@@ -1,6 +1,5 @@
 -- The zeros are counted one after another. Assumes nothing.
-use mathlib.Core.Logic.{⊎_elim}
-use Prim.Native.Nat.{◌+◌, ◌-◌, ◌≤◌}
+use Prim.Native.Nat.{◌-◌}
 use mathlib.Core.Path.{◌≡◌, ap, ◌∙◌}
 use native.Mathlib.Omega.{arith}
 use borrow.Author.Rules.{rules}
@@ -12,8 +11,18 @@ use Rattle.good_order.proofs.zeros.zeros_between.Goals.{then-column-i-eq0, else-
 pub loop-i-preserved : goal.loop-i-preserved
 loop-i-preserved c =
     elim c.if-column-i-eq0.branch [
-      | then-column-i-eq0 y ↦ (search rules, search rules, omega (arith, c.loop-i.invariant.2, zeros-more c.args.column.now c.loop-i.i y.if-column-i-eq0.true))
-      | else-column-i-eq0 y ↦ (search rules, search rules, omega (arith, c.loop-i.invariant.2, zeros-as-before c.args.column.now c.loop-i.i y.if-column-i-eq0.false))
+      | then-column-i-eq0 y ↦ (
+        search rules,
+        search rules,
+        omega
+            (arith, c.loop-i.invariant.2, zeros-more c.args.column.now c.loop-i.i y.if-column-i-eq0.true),
+      )
+      | else-column-i-eq0 y ↦ (
+        search rules,
+        search rules,
+        omega
+            (arith, c.loop-i.invariant.2, zeros-as-before c.args.column.now c.loop-i.i y.if-column-i-eq0.false),
+      )
     ]
 
 pub returns : goal.returns

@@ -1,11 +1,7 @@
 -- The zeros are counted one after another. Assumes nothing.
-use mathlib.Core.Logic.{⊎_elim}
 use Prim.Native.Nat.{◌+◌, ◌-◌, ◌≤◌}
-use mathlib.Core.Path.{◌≡◌, ap, ◌∙◌}
-use native.Mathlib.Omega.{arith}
-use borrow.Author.Rules.{rules}
+use mathlib.Core.Path.{◌≡◌}
 use Rattle.good_order.specs.Tested.{zeros_in}
-use Rattle.good_order.proofs.Counting.{zeros-more, zeros-as-before}
 use Rattle.good_order.proofs.zeros.zeros_between.Given as goal
 
 abbrev pub invariant-loop-i : goal.invariant-loop-i

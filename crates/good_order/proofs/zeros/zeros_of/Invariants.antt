@@ -1,11 +1,8 @@
 -- The zeros are counted block by block. Assumes nothing.
-use mathlib.Core.Path.{◌≡◌, sym, ap, ◌∙◌}
+use mathlib.Core.Path.{◌≡◌}
 use Prim.Native.Nat.{◌-◌, ◌≤◌}
 use lib.ListN.{length}
-use native.Mathlib.Omega.{arith}
-use borrow.Author.Rules.{rules}
 use Rattle.good_order.specs.Tested.{zeros_in}
-use Rattle.good_order.proofs.Counting.{zeros-none, zeros-most}
 use Rattle.good_order.proofs.zeros.zeros_of.Given as goal
 
 abbrev pub invariant-loop-b : goal.invariant-loop-b

@@ -1,5 +1,4 @@
 -- A conjunction of literals is one by its literals; else the node's own. Assumes nothing.
-use borrow.Author.Rules.{rules}
 use Rattle.judge.proofs.CubeWalks.{cube-by-node}
 use Rattle.judge.proofs.cube.by_node.Goals as goal
 

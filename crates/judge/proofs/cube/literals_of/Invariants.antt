@@ -1,21 +1,13 @@
 -- The literals found and those of the node that the walk is at are the diagram's, and a child has a smaller number. Assumes nothing.
-use mathlib.Core.Path.{sym, subst}
-use Prim.Native.Nat.{ℕ, ◌<◌}
-use native.Mathlib.Omega.{arith}
-use lib.ListN.{length, get_or}
-use borrow.Author.Rules.{rules}
-use borrow.Author.Tests.{eqb-true}
-use Rattle.meaning.specs.Diagram.{Diagram}
-use Rattle.meaning.proofs.Booleans.{t≢f}
 use Rattle.table.specs.Nodes.{diagram_at}
 use Rattle.walks.specs.Readable.{nodes_in}
-use Rattle.walks.proofs.Here.{Here}
-use Rattle.judge.proofs.CubeWalks.{Walking, walking-first, walking-last, at-node, walking-high, walking-low}
+use Rattle.judge.proofs.CubeWalks.{Walking}
 use Rattle.judge.proofs.cube.literals_of.Given as goal
 
 abbrev pub invariant-loop-k : goal.invariant-loop-k
 invariant-loop-k l =
-    Walking (nodes_in l.vars l.lows l.highs l.count) l.count (diagram_at (nodes_in l.vars l.lows l.highs l.count) l.initial.k) l.positive l.negative l.k
+    Walking (nodes_in l.vars l.lows l.highs l.count) l.count (diagram_at (nodes_in l.vars l.lows l.highs l.count) l.initial.k) l.positive
+    l.negative l.k
 
 abbrev pub decreases-loop-k : goal.decreases-loop-k
 decreases-loop-k l = l.k

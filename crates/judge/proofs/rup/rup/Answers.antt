@@ -54,7 +54,11 @@ rup_with-requires c =
     let negatable : Negatable before c.args.members.now memo₁ c.args.root.0 =
     memo-again before c.args.members.now c.args.memo.now memo₁ c.args.root.0 memo-kept
     c.requires.fact.0 in
-    record { fact = (negatable, c.requires.fact.1, c.requires.fact.2, c.requires.fact.3); fact_2 = (worded, c.requires.memberwords_len.1, nothing_known _ _) }
+    record {
+      fact = (negatable, c.requires.fact.1, c.requires.fact.2, c.requires.fact.3);
+      fact_2 =
+          (worded, c.requires.memberwords_len.1, nothing_known _ _);
+    }
 
 pub shape_of-vars : goal.shape_of-vars
 shape_of-vars c =

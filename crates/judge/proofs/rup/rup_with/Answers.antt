@@ -5,7 +5,6 @@ use mathlib.Core.List.{List}
 use Prim.Native.Nat.{ℕ}
 use native.Mathlib.Omega.{arith}
 use lib.ListN.{length}
-use borrow.Author.Rules.{rules}
 use Rattle.meaning.specs.Diagram.{Diagram}
 use Rattle.table.specs.Nodes.{diagram_at}
 use Rattle.table.specs.Indexed.{Table, table_of, nodes_of}
@@ -18,7 +17,11 @@ use Rattle.judge.proofs.Judging.{rup-full, rup-judged}
 use Rattle.judge.proofs.rup.rup_with.Goals as goal
 
 pub by_negation-made-requires : goal.by_negation-made-requires
-by_negation-made-requires c = record { fact = (c.requires.fact.0, c.requires.fact.2, c.requires.fact.3); fact_2 = (c.requires.fact_2.0, c.requires.fact_2.1) }
+by_negation-made-requires c = record {
+  fact = (c.requires.fact.0, c.requires.fact.2, c.requires.fact.3);
+  fact_2 =
+      (c.requires.fact_2.0, c.requires.fact_2.1);
+}
 
 pub shape_of-vars-then-made : goal.shape_of-vars-then-made
 shape_of-vars-then-made c =
@@ -68,7 +71,10 @@ returns-then-made c =
     c.by_negation-made.new.list in
     let by-negation : (b : Bool) → c.by_negation-made.result.full ≡ b → ByNegation before members root b table₁ list₁ =
     λ b e. subst (λ full. ByNegation before members root full table₁ list₁) e c.by_negation-made.ensures.fact_3 in
-    record { fact_3 = rup-full before c.requires.fact.0.ready.good members root table₁ list₁ (by-negation true c.if-made.true) 64; marks_after = c.requires.fact.1 }
+    record {
+      fact_3 = rup-full before c.requires.fact.0.ready.good members root table₁ list₁ (by-negation true c.if-made.true) 64;
+      marks_after = c.requires.fact.1;
+    }
 
 pub unit_prop_known-p-requires : goal.unit_prop_known-p-requires
 unit_prop_known-p-requires c =
@@ -161,7 +167,8 @@ returns c =
     record {
       fact_3 = rup-judged before c.requires.fact.0.ready.good members root table₁ list₁
           (by-negation false c.if-made.false) c.unit_prop_known-p.result
-          (table_of c.unit_prop_known-p.new.vars c.unit_prop_known-p.new.lows c.unit_prop_known-p.new.highs c.unit_prop_known-p.new.heads c.unit_prop_known-p.new.links c.unit_prop_known-p.result.count)
+          (table_of c.unit_prop_known-p.new.vars c.unit_prop_known-p.new.lows c.unit_prop_known-p.new.highs c.unit_prop_known-p.new.heads
+          c.unit_prop_known-p.new.links c.unit_prop_known-p.result.count)
           c.unit_prop_known-p.ensures.fact_3 refl;
       marks_after = c.unit_prop_known-p.ensures.marks_after ∙ ap unmarked c.by_negation-made.auto.vars;
     }

@@ -1,6 +1,5 @@
 -- `check_within` says 7, or lends the arrays' first n places to the check. Assumes nothing.
 use native.Mathlib.Omega.{arith}
-use borrow.Author.Rules.{rules}
 use Rattle.columns.proofs.First.{first-length}
 use Rattle.node_check.proofs.First.{check-past, check-first}
 use Rattle.node_check.proofs.within.check_within.Goals as goal

@@ -1,6 +1,5 @@
 -- `at_least_within` says 7, or lends the arrays' first n places to the call. Assumes nothing.
 use native.Mathlib.Omega.{arith}
-use borrow.Author.Rules.{rules}
 use Rattle.columns.proofs.First.{first-length}
 use Rattle.nodes.proofs.First.{at-least-past, at-least-first}
 use Rattle.nodes.proofs.within.at_least_within.Goals as goal

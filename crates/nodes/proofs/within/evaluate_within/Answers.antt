@@ -1,6 +1,5 @@
 -- `evaluate_within` says 7, or lends the arrays' first n places to the evaluation. Assumes nothing.
 use native.Mathlib.Omega.{arith}
-use borrow.Author.Rules.{rules}
 use Rattle.columns.proofs.First.{first-length}
 use Rattle.nodes.proofs.First.{evaluation-past, evaluation-first}
 use Rattle.nodes.proofs.within.evaluate_within.Goals as goal

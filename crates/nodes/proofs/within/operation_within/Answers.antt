@@ -1,6 +1,5 @@
 -- `operation_within` says 7, or lends the arrays' first n places to the operation. Assumes nothing.
 use native.Mathlib.Omega.{arith}
-use borrow.Author.Rules.{rules}
 use Rattle.columns.proofs.First.{first-length}
 use Rattle.nodes.proofs.First.{operation-past, operation-first}
 use Rattle.nodes.proofs.within.operation_within.Goals as goal

@@ -1,6 +1,5 @@
 -- `second` goes by the operation's kind. Assumes nothing.
 use mathlib.Core.Path.{refl}
-use borrow.Author.Rules.{rules}
 use Rattle.operate.specs.declared.Operation.TheVariants.{Conjunction, Negation, Cofactor, Literals}
 use Rattle.nodes.specs.Second.{second_of}
 use Rattle.nodes.proofs.First.{kind-second}

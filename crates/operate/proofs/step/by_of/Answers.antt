@@ -1,5 +1,4 @@
 -- `by_of` is the definition, operation by operation. Assumes nothing.
-use borrow.Author.Rules.{rules}
 use Rattle.operate.proofs.step.by_of.Goals as goal
 
 pub returns-in-Conjunction : goal.returns-in-Conjunction

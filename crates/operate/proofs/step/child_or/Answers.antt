@@ -1,6 +1,5 @@
 -- `child_or` reads the column where the node has the variable, as the definition does. Assumes nothing.
 use borrow.Author.Tests.{eq-eqb, ne_eqb}
-use borrow.Author.Rules.{rules}
 use Rattle.operate.proofs.step.child_or.Goals as goal
 
 pub returns-then-vars-i : goal.returns-then-vars-i

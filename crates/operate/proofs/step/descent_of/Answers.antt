@@ -1,7 +1,6 @@
 -- `descent_of` chooses the sides in the definition's order. Assumes nothing.
 use Rattle.operate.specs.Inner.{descent_of}
 use borrow.Author.Tests.{eq-eqb, ne_eqb}
-use borrow.Author.Rules.{rules}
 use Rattle.operate.proofs.step.descent_of.Goals as goal
 
 pub returns-then-g0-eq0 : goal.returns-then-g0-eq0

@@ -1,20 +1,19 @@
 -- Where the steps have come the result stays the one asked, in every table with these columns, and each step comes to later variables
 -- (Forced). Assumes nothing.
 use mathlib.Core.Path.{◌≡◌, subst}
-use mathlib.Core.List.{List}
 use Prim.Native.Nat.{ℕ, ◌-◌}
 use native.Mathlib.Omega.{arith}
-use borrow.Author.Rules.{rules}
 use Rattle.table.specs.Indexed.{Table, table_of}
 use Rattle.operate.specs.declared.Operation.{Operation}
 use Rattle.operate.specs.declared.step.Next.{Next}
 use Rattle.operate.specs.declared.step.Next.TheVariants.{Told, One, Both}
-use Rattle.operate.specs.Inner.{operation_of, top, Given, NextSays}
+use Rattle.operate.specs.Inner.{operation_of, Given, NextSays}
 use Rattle.operate.proofs.Forced.{Forced, forced-none, forced-told, forced-one, forced-both, top_within}
 use Rattle.operate.proofs.step.forced_down.Goals as goal
 
 -- what the code's step says
-says : (op : Operation) (shared : ℕ) (T : Table) (first second f g : ℕ) (x r : Next) → x ≡ r → (Given op shared T f g → NextSays op shared T f g x)
+says : (op : Operation) (shared : ℕ) (T : Table) (first second f g : ℕ) (x r : Next) → x ≡ r →
+    (Given op shared T f g → NextSays op shared T f g x)
     → Forced op shared T first second f g → NextSays op shared T f g r
 says op shared T first second f g x r e told W = subst (NextSays op shared T f g) e (told W.given)
 
@@ -43,7 +42,8 @@ loop-k-smaller c =
     let r = c.requires in
     let W = l.invariant r.heads r.links r.count r.given in
     let T : Table = table_of a.vars.now a.lows.now a.highs.now r.heads r.links r.count in
-    let h = says (operation_of a.kind a.by) a.by.positive T a.first.0 a.second.0 l.f.0 l.g.0 _ (One c.in-One.a c.in-One.b) c.in-One.is (c.next_of.ensures r.heads r.links r.count) W in
+    let h = says (operation_of a.kind a.by) a.by.positive T a.first.0 a.second.0 l.f.0 l.g.0 _ (One c.in-One.a c.in-One.b) c.in-One.is
+    (c.next_of.ensures r.heads r.links r.count) W in
     omega (arith, h.1, top_within a.kind a.by T c.in-One.a.0 c.in-One.b.0 h.0)
 
 pub loop-k-preserved : goal.loop-k-preserved

@@ -1,5 +1,4 @@
 -- `is_beyond` is the definition, kind by kind. Assumes nothing.
-use borrow.Author.Rules.{rules}
 use Rattle.operate.proofs.step.is_beyond.Goals as goal
 
 pub returns-in-ByDiagram : goal.returns-in-ByDiagram

@@ -1,6 +1,5 @@
 -- `level_of` gives 65 for a constant and else reads the column, as the definition does. Assumes nothing.
 use borrow.Author.Tests.{lt-ltb, le-ltb}
-use borrow.Author.Rules.{rules}
 use Rattle.operate.proofs.step.level_of.Goals as goal
 
 pub returns-then-i-lt2 : goal.returns-then-i-lt2

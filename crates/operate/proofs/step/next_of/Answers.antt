@@ -1,9 +1,6 @@
 -- `next_of` says what a step's laws do (Forced), in every table with these columns. Assumes nothing.
 use mathlib.Core.Path.{◌≡◌, ap, sym, ◌∙◌}
-use mathlib.Core.List.{List}
 use Prim.Native.Nat.{ℕ}
-use borrow.Author.Rules.{rules}
-use Rattle.table.specs.declared.Found.TheVariants.{Nothing}
 use Rattle.table.specs.Indexed.{Table, table_of}
 use Rattle.operate.specs.declared.Operation.{Operation}
 use Rattle.operate.specs.declared.step.Kind.{Kind}
@@ -19,11 +16,13 @@ use Rattle.operate.proofs.Forced.{next-told, next-two, next-leveled, next-beyond
 use Rattle.operate.proofs.step.next_of.Goals as goal
 
 -- what the numbers tell
-told : (kind : Kind) (by : Literals) (f g : ℕ) (o : Operation) (r : Found) → r ≡ terminal_of o f g → o ≡ operation_of kind by → terminal_of (operation_of kind by) f g ≡ r
+told : (kind : Kind) (by : Literals) (f g : ℕ) (o : Operation) (r : Found) → r ≡ terminal_of o f g → o ≡ operation_of kind by →
+    terminal_of (operation_of kind by) f g ≡ r
 told kind by f g o r e is = told_of (operation_of kind by) o f g r e is
 
 -- the step that the code takes
-stepped : (kind : Kind) (by : Literals) (T : Table) (f g : ℕ) (o : Operation) (s : Sides) (r : Descent) → r ≡ descent_of o s → o ≡ operation_of kind by
+stepped : (kind : Kind) (by : Literals) (T : Table) (f g : ℕ) (o : Operation) (s : Sides) (r : Descent) → r ≡ descent_of o s → o
+    ≡ operation_of kind by
     → s ≡ sides_of T.vars T.lows T.highs f g → descent_of (operation_of kind by) (sides_of T.vars T.lows T.highs f g) ≡ r
 stepped kind by T f g o s r e is sides =
     sym (e ∙ ap (λ (o : Operation). descent_of o s) is ∙ ap (descent_of (operation_of kind by)) sides)

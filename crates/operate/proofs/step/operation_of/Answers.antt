@@ -1,5 +1,4 @@
 -- `operation_of` is the definition, kind by kind. Assumes nothing.
-use borrow.Author.Rules.{rules}
 use Rattle.operate.proofs.step.operation_of.Goals as goal
 
 pub returns-in-ByLiterals : goal.returns-in-ByLiterals

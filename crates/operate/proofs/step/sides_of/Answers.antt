@@ -1,6 +1,5 @@
 -- `sides_of` puts together what its calls give. Assumes nothing.
 use Rattle.operate.specs.Inner.{sides_of}
-use borrow.Author.Rules.{rules}
 use Rattle.operate.proofs.step.sides_of.Goals as goal
 
 pub returns : goal.returns

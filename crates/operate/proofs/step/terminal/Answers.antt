@@ -2,7 +2,6 @@
 use borrow.Author.Tests.{eq-eqb, ne_eqb, lt-ltb, le-ltb}
 use Rattle.operate.specs.Inner.{terminal_of}
 use mathlib.Core.Logic.{⊎_elim}
-use borrow.Author.Rules.{rules}
 use Rattle.operate.proofs.step.terminal.Goals as goal
 
 pub returns-then-f-eq0 : goal.returns-then-f-eq0
@@ -18,7 +17,8 @@ returns-then-f-eq1 c =
 pub returns-then-f-lt2 : goal.returns-then-f-lt2
 unfolding terminal_of
 returns-then-f-lt2 c =
-    ⊎_elim (λ h. rw (c.in-Cofactor.is, lt-ltb c.args.f.0 2 h)) (λ h. rw (c.in-Cofactor.is, le-ltb c.args.f.0 2 h.0, eq-eqb c.args.g.0 1 h.1)) c.then-f-lt2.either
+    ⊎_elim (λ h. rw (c.in-Cofactor.is, lt-ltb c.args.f.0 2 h))
+    (λ h. rw (c.in-Cofactor.is, le-ltb c.args.f.0 2 h.0, eq-eqb c.args.g.0 1 h.1)) c.then-f-lt2.either
 
 pub returns-then-f-g : goal.returns-then-f-g
 unfolding terminal_of

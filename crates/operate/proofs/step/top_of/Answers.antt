@@ -1,6 +1,5 @@
 -- `top_of` takes the lesser of two levels, as the definition does. Assumes nothing.
 use borrow.Author.Tests.{lt-ltb, le-ltb}
-use borrow.Author.Rules.{rules}
 use Rattle.operate.proofs.step.top_of.Goals as goal
 
 pub returns-then-w-v : goal.returns-then-w-v

@@ -1,5 +1,5 @@
 -- A number's digits: one below 10, else those of its tenth and one more (Putting). Assumes nothing.
-use Rattle.std.proofs.Common.{◌≡◌, ℕ, ◌<◌, arith, rules}
+use Rattle.std.proofs.Common.{arith}
 use Rattle.report.proofs.Digits.{length-small, length_more}
 use Rattle.report.proofs.Putting.{put_small, put-more}
 use Rattle.report.proofs.put.+put_number.Goals as goal

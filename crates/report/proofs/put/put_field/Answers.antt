@@ -1,6 +1,5 @@
 -- A number and its parting byte: at most 21 bytes. Assumes nothing.
 use native.Mathlib.Omega.{arith}
-use borrow.Author.Rules.{rules}
 use Rattle.report.proofs.Digits.{at-most-20}
 use Rattle.report.proofs.Putting.{put_then}
 use Rattle.report.proofs.put.put_field.Goals as goal

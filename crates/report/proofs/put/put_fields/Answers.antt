@@ -1,10 +1,7 @@
 -- The five fields, one after the other. Assumes nothing.
-use mathlib.Core.Path.{sym}
 use Prim.Native.Nat.{◌≤◌}
 use lib.ListN.{length}
-use lib.Seq.{length-take-le}
 use native.Mathlib.Omega.{arith}
-use borrow.Author.Rules.{rules}
 use Rattle.report.proofs.Putting.{put_whole}
 use Rattle.report.proofs.put.put_fields.Goals as goal
 

@@ -65,14 +65,18 @@ shape_of-struck c =
 
 pub returns : goal.returns
 returns c =
-    let after-read-commands = c.before.before.before.before.before.before.before.before.before.before.before.before.before.before.before.before.before.before.before.before.before.before.before.before.before.before.before.before.before.before.before.before.before.before.before.before.before.before in
+    let after-read-commands =
+    c.before.before.before.before.before.before.before.before.before.before.before.before.before.before.before.before.before.before.before.before.before.before.before.before.before.before.before.before.before.before.before.before.before.before.before.before.before.before in
     let after-drop-to = c.before.before.before.before.before.before.before.before.before.before.before in
     let a = c.args in
-    let l : Lent = lent_of after-read-commands.read_commands-ended.new.vars after-read-commands.read_commands-ended.new.lows after-read-commands.read_commands-ended.new.highs after-read-commands.read_commands-ended.new.heads after-read-commands.read_commands-ended.new.links after-read-commands.read_commands-ended.new.members
+    let l : Lent = lent_of after-read-commands.read_commands-ended.new.vars after-read-commands.read_commands-ended.new.lows
+    after-read-commands.read_commands-ended.new.highs after-read-commands.read_commands-ended.new.heads
+    after-read-commands.read_commands-ended.new.links after-read-commands.read_commands-ended.new.members
     after-read-commands.read_commands-ended.new.scratch after-read-commands.read_commands-ended.new.struck in
     let st : State = c.read_commands-ended.result.state in
     judged-is l st c.read_commands-ended.ensures.fact
-    (table_of after-drop-to.drop_to.new.vars after-drop-to.drop_to.new.lows after-drop-to.drop_to.new.highs after-drop-to.drop_to.new.heads after-drop-to.drop_to.new.links st.kept) refl c.drop_to.ensures _ _
+    (table_of after-drop-to.drop_to.new.vars after-drop-to.drop_to.new.lows after-drop-to.drop_to.new.highs after-drop-to.drop_to.new.heads
+    after-drop-to.drop_to.new.links st.kept) refl c.drop_to.ensures _ _
     c.read_commands-ended.auto.vars c.read_commands-ended.auto.members _ _ _ _ _
     (ap (λ (first : steps.State). proof_from a.mode a.variables (length a.vars.now) a.proof.now first)
     (sym (first-is a.variables (lent_of a.vars.now a.lows.now a.highs.now a.heads.now a.links.now a.members.now

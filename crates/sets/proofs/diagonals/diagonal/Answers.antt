@@ -1,8 +1,7 @@
 -- `diagonal` places at least k of the last d + k variables, and leaves the row for the next diagonal. Assumes nothing.
-use mathlib.Core.Path.{◌≡◌, refl, sym, ◌∙◌}
+use mathlib.Core.Path.{refl, ◌∙◌}
 use lib.ListN.{length-set}
-use native.Mathlib.Omega.{arith}
-use Rattle.sets.proofs.Rows.{Along, along-start, along-good, along-next, next_row, variable-least, variable-most}
+use Rattle.sets.proofs.Rows.{along-start, along-good, along-next, next_row, variable-least, variable-most}
 use Rattle.sets.proofs.Rows.{row-full}
 use Rattle.sets.proofs.diagonals.diagonal.Goals as goal
 

@@ -1,6 +1,6 @@
 -- `diagonals` places at least k of the set's variables. Assumes nothing.
-use mathlib.Core.Path.{◌≡◌, refl, ◌∙◌}
-use Rattle.sets.proofs.Rows.{Before, before-start, before-end, before-next, before-least, before-most, diagonal-full}
+use mathlib.Core.Path.{refl, ◌∙◌}
+use Rattle.sets.proofs.Rows.{before-start, before-end, before-next, before-least, before-most, diagonal-full}
 use Rattle.sets.proofs.diagonals.diagonals.Goals as goal
 
 pub loop-d-init : goal.loop-d-init

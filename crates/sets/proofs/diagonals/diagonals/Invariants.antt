@@ -2,15 +2,14 @@
 use mathlib.Core.Path.{◌≡◌}
 use Prim.Native.Nat.{◌-◌, ◌+◌}
 use lib.ListN.{length}
-use native.Mathlib.Omega.{arith}
 use Rattle.table.specs.Indexed.{table_of}
-use Rattle.sets.proofs.Rows.{Before, before-start, before-end, before-next, before-least, before-most, deep-here, diagonal-full}
-use borrow.Author.Rules.{rules}
+use Rattle.sets.proofs.Rows.{Before}
 use Rattle.sets.proofs.diagonals.diagonals.Given as goal
 
 abbrev pub invariant-loop-d : goal.invariant-loop-d
 invariant-loop-d l =
-    Before (table_of l.initial.vars l.initial.lows l.initial.highs l.initial.heads l.initial.links l.count) l.set l.k l.m (table_of l.vars l.lows l.highs l.heads l.links l.n) l.row l.node.0 l.d l.v
+    Before (table_of l.initial.vars l.initial.lows l.initial.highs l.initial.heads l.initial.links l.count) l.set l.k l.m
+    (table_of l.vars l.lows l.highs l.heads l.links l.n) l.row l.node.0 l.d l.v
     × (length l.vars ≡ length l.initial.vars) × (length l.lows ≡ length l.initial.lows) × (length l.highs ≡ length l.initial.highs)
     × (length l.heads ≡ length l.initial.heads) × (length l.links ≡ length l.initial.links) × (length l.row ≡ length l.initial.row)
 

@@ -1,5 +1,5 @@
 -- `lower_in` stops at the set's greatest variable below v. Assumes nothing.
-use mathlib.Core.Path.{◌≡◌, sym, ◌∙◌}
+use mathlib.Core.Path.{sym, ◌∙◌}
 use native.Mathlib.Omega.{arith}
 use Rattle.sets.proofs.Lower.{lower-hit, lower-go, lower-done}
 use Rattle.sets.proofs.variables.lower_in.Goals as goal

@@ -1,9 +1,7 @@
 -- `lower_in` stops at the set's greatest variable below v. The loop: what is to be found is what is left to be found. Assumes nothing.
-use mathlib.Core.Path.{◌≡◌, sym, ◌∙◌}
+use mathlib.Core.Path.{◌≡◌}
 use Prim.Native.Nat.{◌≤◌, suc}
 use Rattle.sets.specs.Variables.{lower}
-use Rattle.sets.proofs.Lower.{lower-hit, lower-first, lower-go, lower-done}
-use borrow.Author.Rules.{rules}
 use Rattle.sets.proofs.variables.lower_in.Given as goal
 
 abbrev pub invariant-loop-w : goal.invariant-loop-w

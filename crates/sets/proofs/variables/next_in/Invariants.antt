@@ -1,10 +1,7 @@
 -- `next_in` stops at the first variable of the set. The loop: none was passed. The measure is what is left to 65. Assumes nothing.
-use mathlib.Core.Path.{◌≡◌, sym, ◌∙◌, subst}
+use mathlib.Core.Path.{◌≡◌}
 use mathlib.Core.Bool.{false}
 use Prim.Native.Nat.{ℕ, ◌-◌, ◌≤◌, ◌<◌}
-use native.Mathlib.Omega.{arith}
-use native.Mathlib.Decide.{ℕ_discrete}
-use borrow.Author.Rules.{rules}
 use Rattle.meaning.specs.Words.{in_word}
 use Rattle.sets.proofs.variables.next_in.Given as goal
 

@@ -1,7 +1,6 @@
 -- `size_of` counts the set's variables from the greatest down. Assumes nothing.
 use native.Mathlib.Omega.{arith}
-use Rattle.sets.proofs.Lower.{lower-is, Counting, counting-start, counting-next, counting-end}
-use borrow.Author.Rules.{rules}
+use Rattle.sets.proofs.Lower.{lower-is, counting-start, counting-next, counting-end}
 use Rattle.sets.proofs.variables.size_of.Goals as goal
 
 pub loop-v-init : goal.loop-v-init

@@ -1,7 +1,5 @@
 -- `size_of` counts the set's variables from the greatest down. Assumes nothing.
-use native.Mathlib.Omega.{arith}
-use Rattle.sets.proofs.Lower.{lower-is, Counting, counting-start, counting-next, counting-end}
-use borrow.Author.Rules.{rules}
+use Rattle.sets.proofs.Lower.{Counting}
 use Rattle.sets.proofs.variables.size_of.Given as goal
 
 abbrev pub invariant-loop-v : goal.invariant-loop-v

@@ -1,7 +1,5 @@
 -- `call` says 7, or works with the memo that the table asks for. Assumes nothing.
 use mathlib.Core.Path.{sym, ◌∙◌}
-use borrow.Author.Rules.{rules}
-use borrow.Author.Tests.{not-true, not-false}
 use Rattle.single.proofs.Calls.{called-7}
 use Rattle.single.proofs.call.call.Goals as goal
 

@@ -1,7 +1,5 @@
 -- `judged` says what the definition says, by the refusals in their order. Assumes nothing.
 use mathlib.Core.Path.{sym, ◌∙◌}
-use borrow.Author.Rules.{rules}
-use borrow.Author.Tests.{not-true, not-false}
 use Rattle.table.proofs.InOrder.{lent-good}
 use Rattle.operate.proofs.RightMemo.{memo-fresh}
 use Rattle.single.proofs.Operands.{allowed-by}

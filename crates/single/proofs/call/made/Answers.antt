@@ -32,4 +32,5 @@ returns c =
     let t : Table = table_of a.vars.now a.lows.now a.highs.now a.heads.now a.links.now a.count in
     let y = c.apply-p in
     let o : Outcome = outcome_of y.new.vars y.new.lows y.new.highs y.new.heads y.new.links y.result in
-    done-is (lists_of t) a.count o _ y.ensures.result_after (applied-longer _ _ _ _ c.requires.operands o y.ensures.result_after) c.if-p.false
+    done-is (lists_of t) a.count o _ y.ensures.result_after (applied-longer _ _ _ _ c.requires.operands o y.ensures.result_after)
+    c.if-p.false

@@ -1,6 +1,5 @@
 -- `operand_refusal` gives 27 or 15 where its definition does. Assumes nothing.
 use mathlib.Core.Path.{sym, ◌∙◌}
-use borrow.Author.Rules.{rules}
 use Rattle.single.proofs.Shares.{shares-is}
 use Rattle.single.proofs.Operands.{conjunction-none, negation-none, cofactor-27, cofactor-none, literals-15, literals-none}
 use Rattle.single.proofs.call.operand_refusal.Goals as goal

@@ -1,11 +1,7 @@
 -- `made` leaves the at_least-p diagram placed and counts what it excludes, or leaves the table as lent and says 23. Assumes nothing.
-use Rattle.meaning.specs.Sets.{at_least}
-use Rattle.meaning.specs.Words.{in_word}
 use Rattle.table.specs.Indexed.{Table, table_of, lists_of, Outcome, outcome_of}
-use Rattle.table.proofs.Outcomes.{Grown, Longer}
 use Rattle.single.proofs.Calls.{done-is, full_is}
 use Rattle.single.proofs.Counts.{least-grown, least-longer, least-23, least-done}
-use borrow.Author.Rules.{rules}
 use Rattle.single.proofs.least.made.Goals as goal
 
 pub drop_to-requires : goal.drop_to-requires

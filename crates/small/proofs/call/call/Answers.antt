@@ -4,7 +4,6 @@ use Prim.Native.Nat.{ℕ}
 use lib.ListN.{replicate}
 use borrow.Author.Tests.{not-true, not-false}
 use Rattle.small.proofs.RunWays.{call-seven, call-done}
-use borrow.Author.Rules.{rules}
 use Rattle.small.proofs.call.call.Goals as goal
 
 pub returns-then-not-lent_fits : goal.returns-then-not-lent_fits

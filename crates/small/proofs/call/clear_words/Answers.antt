@@ -1,10 +1,9 @@
 -- `clear_words`: all places up to the loop's are 0. Assumes nothing.
-use borrow.Author.Rules.{rules}
 use mathlib.Core.Path.{refl, ◌∙◌}
 use native.Mathlib.Omega.{arith}
 use Prim.Native.Nat.{◌-◌}
-use lib.ListN.{length, length-set}
-use Rattle.truth_rules.proofs.Walks.{Changed, changed-none, changed-one, changed-all}
+use lib.ListN.{length-set}
+use Rattle.truth_rules.proofs.Walks.{changed-none, changed-one, changed-all}
 use Rattle.small.proofs.RunWays.{map-zero}
 use Rattle.small.proofs.call.clear_words.Goals as goal
 

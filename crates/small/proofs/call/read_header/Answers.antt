@@ -1,6 +1,5 @@
 -- `read_header`: the header, with more than six variables refused. Assumes nothing.
 use Rattle.small.proofs.RunWays.{header-wide, header-narrow, header-improper}
-use borrow.Author.Rules.{rules}
 use Rattle.small.proofs.call.read_header.Goals as goal
 
 pub returns-then-variables-gt6 : goal.returns-then-variables-gt6

@@ -1,7 +1,6 @@
 -- `run`: the header, then the clauses and the records. Assumes nothing.
 use Rattle.small.specs.Lent.{said_of}
 use Rattle.small.proofs.RunWays.{fits-sizes, run-improper, run-proper, run-within}
-use borrow.Author.Rules.{rules}
 use Rattle.small.proofs.call.run.Goals as goal
 
 pub run_clauses-requires : goal.run_clauses-requires

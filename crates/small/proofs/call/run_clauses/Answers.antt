@@ -7,7 +7,6 @@ use lib.ListN.{length, replicate}
 use Rattle.dimacs.specs.Clauses.{clauses_from}
 use Rattle.small.specs.WordSteps.{WordState, word_clauses, word_records}
 use Rattle.small.proofs.RunWays.{begins-few, first-held, first-begun, begun-said, refused-said}
-use borrow.Author.Rules.{rules}
 use Rattle.small.proofs.call.run_clauses.Goals as goal
 
 pub read_records-requires : goal.read_records-requires

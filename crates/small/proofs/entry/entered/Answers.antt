@@ -1,7 +1,6 @@
 -- `entered`: the word made is the next entry. Assumes nothing.
 use Rattle.small.proofs.LineWays.{entry-fits, made-halt, made_word}
 use native.Mathlib.Omega.{arith}
-use borrow.Author.Rules.{rules}
 use Rattle.small.proofs.entry.entered.Goals as goal
 
 pub bounds-scratch-entries : goal.bounds-scratch-entries

@@ -1,6 +1,5 @@
 -- `entry_word`: 0, all ones, or a place of the scratch list. Assumes nothing.
 use Rattle.small.proofs.RecordWays.{word_at}
-use borrow.Author.Rules.{rules}
 use Rattle.small.proofs.entry.entry_word.Goals as goal
 
 pub returns : goal.returns

@@ -1,6 +1,5 @@
 -- `is_beyond`: a set's word has a bit from n on where it is at least 2^n. Assumes nothing.
 use Rattle.small.proofs.RecordWays.{beyond-bit}
-use borrow.Author.Rules.{rules}
 use Rattle.small.proofs.entry.is_beyond.Goals as goal
 
 pub returns : goal.returns

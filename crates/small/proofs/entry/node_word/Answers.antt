@@ -9,7 +9,6 @@ use mathlib.Core.Bool.{true, false}
 use Rattle.small.specs.Lent.{words_lent, state_of}
 use Rattle.small.proofs.RecordWays.{entries-full, entries-few, entry-is, entry-word-is, node-21, node-12-zero, node-12-beyond}
 use Rattle.small.proofs.RecordWays.{node-13-low, node-13-high, node-14-low, node-14-high, node_made}
-use borrow.Author.Rules.{rules}
 use Rattle.small.proofs.entry.node_word.Goals as goal
 
 pub returns-then-entries-ge4096 : goal.returns-then-entries-ge4096

@@ -3,7 +3,6 @@ use mathlib.Core.Path.{refl}
 use Rattle.small.specs.Lent.{words_lent, state_of}
 use Rattle.small.proofs.RecordWays.{entries-full, entries-few, set-21, set-12}
 use Rattle.small.proofs.LineWays.{parity-29, parity-made, least-made}
-use borrow.Author.Rules.{rules}
 use Rattle.small.proofs.entry.set_word.Goals as goal
 
 pub returns-then-st-ge4096 : goal.returns-then-st-ge4096

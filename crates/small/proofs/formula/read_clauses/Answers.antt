@@ -1,10 +1,9 @@
 -- `read_clauses`: the formula's clauses as words. The idea: what is left of the loop is what is left of the reading. Assumes nothing.
-use borrow.Author.Rules.{rules}
-use mathlib.Core.Path.{◌≡◌, refl, sym, ◌∙◌}
+use mathlib.Core.Path.{refl, sym, ◌∙◌}
 use native.Mathlib.Omega.{arith}
 use Prim.Native.Nat.{◌-◌}
-use lib.ListN.{length, length-set}
-use Rattle.small.proofs.RunWays.{Building, building-start, building-end, building-refused, building-more, building-next}
+use lib.ListN.{length-set}
+use Rattle.small.proofs.RunWays.{building-start, building-end, building-refused, building-more, building-next}
 use Rattle.small.proofs.formula.read_clauses.Goals as goal
 
 pub loop-number-init : goal.loop-number-init

@@ -1,10 +1,8 @@
 -- `read_clauses`: the formula's clauses as words. The idea: what is left of the loop is what is left of the reading. Assumes nothing.
-use borrow.Author.Rules.{rules}
-use mathlib.Core.Path.{◌≡◌, refl, sym, ◌∙◌}
-use native.Mathlib.Omega.{arith}
+use mathlib.Core.Path.{◌≡◌}
 use Prim.Native.Nat.{◌-◌}
-use lib.ListN.{length, length-set}
-use Rattle.small.proofs.RunWays.{Building, building-start, building-end, building-refused, building-more, building-next}
+use lib.ListN.{length}
+use Rattle.small.proofs.RunWays.{Building}
 use Rattle.small.proofs.formula.read_clauses.Given as goal
 
 abbrev pub invariant-loop-number : goal.invariant-loop-number

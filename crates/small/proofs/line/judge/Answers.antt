@@ -7,7 +7,6 @@ use lib.ListN.{length, take, replicate, length-replicate}
 use lib.Seq.{length-take-le}
 use Rattle.records.specs.declared.Rule.TheVariants.{Rup, Pr, Path}
 use Rattle.small.proofs.LineWays.{line-says}
-use borrow.Author.Rules.{rules}
 use Rattle.small.proofs.line.judge.Goals as goal
 
 take-zeros : (n m : ℕ) → m ≤ n → length {A = ℕ} (take m (replicate n 0)) ≡ m

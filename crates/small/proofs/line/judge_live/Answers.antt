@@ -7,7 +7,6 @@ use lib.ListN.{length, take, length-replicate}
 use lib.Seq.{length-take-le}
 use Rattle.truth_rules.specs.Lists.{LineSays}
 use Rattle.small.specs.WordSteps.{line_by}
-use borrow.Author.Rules.{rules}
 use Rattle.small.proofs.line.judge_live.Goals as goal
 
 -- the first r places of the list of live members

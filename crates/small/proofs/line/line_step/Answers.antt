@@ -2,7 +2,6 @@
 use native.Mathlib.Omega.{arith}
 use borrow.Author.Tests.{not-true, not-false}
 use Rattle.small.proofs.LineWays.{line_refused, root-other, few-lines, line-19, line-next}
-use borrow.Author.Rules.{rules}
 use Rattle.small.proofs.line.line_step.Goals as goal
 
 pub judge_live-j-requires : goal.judge_live-j-requires

@@ -7,7 +7,6 @@ use borrow.Author.Tests.{ltb-true, not-true, not-false}
 use Rattle.small.specs.Lent.{words_lent, state_of}
 use Rattle.small.proofs.RecordWays.{entry-is, entry-word-is}
 use Rattle.small.proofs.LineWays.{line-13, root-tested}
-use borrow.Author.Rules.{rules}
 use Rattle.small.proofs.line.line_test.Goals as goal
 
 pub returns-then-not-is_entry : goal.returns-then-not-is_entry

@@ -1,10 +1,6 @@
 -- `live_words` gathers the members whose mark is 0, place after place. Assumes nothing.
-use mathlib.Core.Path.{sym, subst}
-use mathlib.Core.Logic.{⊎_elim}
-use mathlib.Core.List.{List}
-use Prim.Native.Nat.{ℕ, ◌+◌, ◌-◌}
-use borrow.Author.Rules.{rules}
-use Rattle.small.proofs.Gathering.{Gathered, gathered_none, gathered-live, gathered-struck, gathered-all}
+use Prim.Native.Nat.{◌-◌}
+use Rattle.small.proofs.Gathering.{Gathered}
 use Rattle.small.proofs.line.live_words.Given as goal
 
 abbrev pub invariant-loop-i : goal.invariant-loop-i

@@ -1,7 +1,6 @@
 -- `quiet_test`: the tests of a RUP or path line's root. The idea: each test taken is the definition's. Assumes nothing.
 use mathlib.Core.Path.{sym, ◌∙◌}
 use borrow.Author.Tests.{le-leb, lt-leb, eq-eqb, ne_eqb}
-use borrow.Author.Rules.{rules}
 use Rattle.small.proofs.line.quiet_test.Goals as goal
 
 pub returns-then-waits : goal.returns-then-waits

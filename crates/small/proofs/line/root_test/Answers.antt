@@ -2,7 +2,6 @@
 use mathlib.Core.Path.{sym, ap, ◌∙◌}
 use Rattle.records.specs.declared.Rule.{Rule}
 use Rattle.small.specs.Lent.{root_test}
-use borrow.Author.Rules.{rules}
 use Rattle.small.proofs.line.root_test.Goals as goal
 
 pub returns-in-Rup : goal.returns-in-Rup

@@ -2,7 +2,6 @@
 use mathlib.Core.Bool.{Bool}
 use Prim.Native.Nat.{◌+◌}
 use mathlib.Core.Path.{ap}
-use borrow.Author.Rules.{rules}
 use Rattle.small.proofs.line.with_line.Goals as goal
 
 pub returns : goal.returns

@@ -1,6 +1,5 @@
 -- `read_records`: record after record. The idea: what is left of the loop is what is left of the definition's recursion. Assumes nothing.
-use borrow.Author.Rules.{rules}
-use mathlib.Core.Path.{◌≡◌, refl, ap, ◌∙◌}
+use mathlib.Core.Path.{refl, ap, ◌∙◌}
 use native.Mathlib.Omega.{arith}
 use Prim.Native.Nat.{suc, ◌+◌, ◌-◌}
 use lib.ListN.{length}
@@ -8,7 +7,7 @@ use lib.Dec.{ltb}
 use Rattle.commands.proofs.Stream.{record-short}
 use Rattle.small.specs.WordSteps.{word_records}
 use Rattle.small.specs.Lent.{words_lent, state_of}
-use Rattle.small.proofs.RunWays.{Going, going_start, going-near, going-stop, going_next}
+use Rattle.small.proofs.RunWays.{going_start, going-near, going-stop, going_next}
 use Rattle.small.proofs.proof.read_records.Goals as goal
 
 pub loop-at-init : goal.loop-at-init

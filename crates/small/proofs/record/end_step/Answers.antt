@@ -1,7 +1,6 @@
 -- `end_step`: 16, 11, 0 or 20. Assumes nothing.
 use mathlib.Core.Bool.{true, false}
 use Rattle.small.proofs.RecordWays.{waits-is, end-16, end-11, end-0, end-20}
-use borrow.Author.Rules.{rules}
 use Rattle.small.proofs.record.end_step.Goals as goal
 
 pub returns-then-waits : goal.returns-then-waits

@@ -3,7 +3,6 @@ use mathlib.Core.Path.{refl}
 use Rattle.small.specs.Lent.{words_lent, state_of}
 use Rattle.small.proofs.RunWays.{held-6, step-node, step_set, step-witness, step_line, step-strike, step_end, step_cut, step-unknown}
 use Rattle.small.proofs.RunWays.{step-none}
-use borrow.Author.Rules.{rules}
 use Rattle.small.proofs.record.record_step.Goals as goal
 
 pub line_step-requires : goal.line_step-requires

@@ -2,7 +2,6 @@
 use mathlib.Core.Bool.{true, false}
 use Rattle.small.specs.Lent.{words_lent}
 use Rattle.small.proofs.RecordWays.{waits-is, strike-16, strike-beyond, strike-again, strike-next}
-use borrow.Author.Rules.{rules}
 use Rattle.small.proofs.record.strike_step.Goals as goal
 
 pub returns-then-waits : goal.returns-then-waits

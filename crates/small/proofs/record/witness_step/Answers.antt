@@ -1,6 +1,5 @@
 -- `witness_step`: 12, 15, or the witness with one literal more. Assumes nothing.
 use Rattle.small.proofs.RecordWays.{witness-12-zero, witness-12-beyond, witness-15-positive, witness-15-negative, witness-next}
-use borrow.Author.Rules.{rules}
 use Rattle.small.proofs.record.witness_step.Goals as goal
 
 pub returns-then-v-lt1 : goal.returns-then-v-lt1

@@ -1,5 +1,4 @@
 -- `ended`: the ways out are laws of Lines. Assumes nothing.
-use borrow.Author.Rules.{rules}
 use borrow.Author.Tests.{not-true, not-false}
 use Rattle.steps.proofs.Lines.{ended-23, ended-19, ended-next}
 use Rattle.steps.proofs.line.ended.Goals as goal

@@ -6,7 +6,6 @@ use Prim.Native.Nat.{ℕ}
 use native.Mathlib.Omega.{arith}
 use lib.ListN.{length, take, replicate, length-replicate}
 use lib.Seq.{length-take-le, length_front}
-use borrow.Author.Rules.{rules}
 use Rattle.meaning.specs.Rules.{Line}
 use Rattle.table.specs.Nodes.{diagram_at}
 use Rattle.table.specs.Indexed.{Table, table_of, nodes_of}
@@ -54,7 +53,20 @@ slice_bounds-rup-end-in-Rup-3 c =
 
 pub rup-requires : goal.rup-requires
 rup-requires c =
-    record { fact = (c.requires.0, c.requires.1, scratch-length c.before.before.before.before.before.before.before.before.before.before.before.before.before.before.before.before.before.before.before.before.before, c.requires.2); memberwords_len = (own-length c.before.before.before.before.before.before.before.before.before.before.before.before.before.before.before.before.before.before.before.before.before, own-length c.before.before.before.before.before.before.before.before.before.before.before.before.before.before.before.before.before.before.before.before.before) }
+    record {
+      fact = (
+        c.requires.0,
+        c.requires.1,
+        scratch-length
+            c.before.before.before.before.before.before.before.before.before.before.before.before.before.before.before.before.before.before.before.before.before,
+        c.requires.2,
+      );
+      memberwords_len = (
+        own-length
+            c.before.before.before.before.before.before.before.before.before.before.before.before.before.before.before.before.before.before.before.before.before,
+        own-length c.before.before.before.before.before.before.before.before.before.before.before.before.before.before.before.before.before.before.before.before.before,
+      );
+    }
 
 pub slice_bounds-pr-end : goal.slice_bounds-pr-end
 slice_bounds-pr-end c =
@@ -78,7 +90,22 @@ slice_bounds-pr-end-in-Pr-5 c =
 
 pub pr-requires : goal.pr-requires
 pr-requires c =
-    record { fact = (c.requires.0, c.requires.1, scratch-length c.before.before.before.before.before.before.before.before.before.before.before.before.before.before.before.before.before.before.before.before.before.before.before.before, own-length c.before.before.before.before.before.before.before.before.before.before.before.before.before.before.before.before.before.before.before.before.before.before.before.before, c.requires.2); memberwords_len = (own-length c.before.before.before.before.before.before.before.before.before.before.before.before.before.before.before.before.before.before.before.before.before.before.before.before, own-length c.before.before.before.before.before.before.before.before.before.before.before.before.before.before.before.before.before.before.before.before.before.before.before.before, own-length c.before.before.before.before.before.before.before.before.before.before.before.before.before.before.before.before.before.before.before.before.before.before.before.before) }
+    record {
+      fact = (
+        c.requires.0,
+        c.requires.1,
+        scratch-length
+            c.before.before.before.before.before.before.before.before.before.before.before.before.before.before.before.before.before.before.before.before.before.before.before.before,
+        own-length c.before.before.before.before.before.before.before.before.before.before.before.before.before.before.before.before.before.before.before.before.before.before.before.before,
+        c.requires.2,
+      );
+      memberwords_len = (
+        own-length
+            c.before.before.before.before.before.before.before.before.before.before.before.before.before.before.before.before.before.before.before.before.before.before.before.before,
+        own-length c.before.before.before.before.before.before.before.before.before.before.before.before.before.before.before.before.before.before.before.before.before.before.before.before,
+        own-length c.before.before.before.before.before.before.before.before.before.before.before.before.before.before.before.before.before.before.before.before.before.before.before.before,
+      );
+    }
 
 pub slice_bounds-path-end : goal.slice_bounds-path-end
 slice_bounds-path-end c =
@@ -100,10 +127,15 @@ path-requires c =
         c.requires.1,
         scratch-length c.before.before.before.before.before.before.before.before.before.before.before.before.before.before.before.before.before.before.before.before.before,
         c.requires.2,
-        subst (λ (x : Rule). FewPaths x (diagram_at (nodes_of (before c.before.before.before.before.before.before.before.before.before.before.before.before.before.before.before.before.before.before.before.before.before)) c.args.g.0))
+        subst (λ (x : Rule). FewPaths x (diagram_at
+            (nodes_of (before c.before.before.before.before.before.before.before.before.before.before.before.before.before.before.before.before.before.before.before.before.before)) c.args.g.0))
             c.in-Path.is c.requires.4,
       );
-      memberwords_len = (own-length c.before.before.before.before.before.before.before.before.before.before.before.before.before.before.before.before.before.before.before.before.before, own-length c.before.before.before.before.before.before.before.before.before.before.before.before.before.before.before.before.before.before.before.before.before);
+      memberwords_len = (
+        own-length
+            c.before.before.before.before.before.before.before.before.before.before.before.before.before.before.before.before.before.before.before.before.before,
+        own-length c.before.before.before.before.before.before.before.before.before.before.before.before.before.before.before.before.before.before.before.before.before,
+      );
     }
 
 pub shape_of-vars-in-Rup : goal.shape_of-vars-in-Rup
@@ -142,7 +174,8 @@ shape_of-scratch-in-Rup c =
 pub returns-in-Rup : goal.returns-in-Rup
 returns-in-Rup c =
     record {
-      fact = subst (λ (x : Rule). LineSays (before c.before.before.before.before.before.before.before.before.before.before.before.before.before.before.before.before.before.before.before.before.before.before.before.before.before.before.before.before.before.before.before.before.before.before.before.before.before.before.before.before) (said c.before.before.before.before.before.before.before.before.before.before.before.before.before.before.before.before.before.before.before.before.before.before.before.before.before.before.before.before.before.before.before.before.before.before.before.before.before.before.before.before x) most_rounds c.rup.result
+      fact = subst (λ (x : Rule). LineSays (before
+          c.before.before.before.before.before.before.before.before.before.before.before.before.before.before.before.before.before.before.before.before.before.before.before.before.before.before.before.before.before.before.before.before.before.before.before.before.before.before.before.before) (said c.before.before.before.before.before.before.before.before.before.before.before.before.before.before.before.before.before.before.before.before.before.before.before.before.before.before.before.before.before.before.before.before.before.before.before.before.before.before.before.before x) most_rounds c.rup.result
           (table_of c.rup.new.vars c.rup.new.lows c.rup.new.highs c.rup.new.heads c.rup.new.links c.rup.result.count))
           (sym c.in-Rup.is)
           (says-most (before c.before.before.before.before.before.before.before.before.before.before.before.before.before.before.before.before.before.before.before.before.before.before.before.before.before.before.before.before.before.before.before.before.before.before.before.before.before.before.before.before) _ _ most_rounds c.rup.result _ (omega arith) c.rup.ensures.fact_2);
@@ -185,7 +218,8 @@ shape_of-scratch-in-Pr c =
 pub returns-in-Pr : goal.returns-in-Pr
 returns-in-Pr c =
     record {
-      fact = subst (λ (x : Rule). LineSays (before c.before.before.before.before.before.before.before.before.before.before.before.before.before.before.before.before.before.before.before.before.before.before.before.before.before.before.before.before.before.before.before.before.before.before.before.before.before.before.before.before.before.before.before.before.before) (said c.before.before.before.before.before.before.before.before.before.before.before.before.before.before.before.before.before.before.before.before.before.before.before.before.before.before.before.before.before.before.before.before.before.before.before.before.before.before.before.before.before.before.before.before.before x) most_rounds c.pr.result
+      fact = subst (λ (x : Rule). LineSays (before
+          c.before.before.before.before.before.before.before.before.before.before.before.before.before.before.before.before.before.before.before.before.before.before.before.before.before.before.before.before.before.before.before.before.before.before.before.before.before.before.before.before.before.before.before.before.before) (said c.before.before.before.before.before.before.before.before.before.before.before.before.before.before.before.before.before.before.before.before.before.before.before.before.before.before.before.before.before.before.before.before.before.before.before.before.before.before.before.before.before.before.before.before.before x) most_rounds c.pr.result
           (table_of c.pr.new.vars c.pr.new.lows c.pr.new.highs c.pr.new.heads c.pr.new.links c.pr.result.count))
           (sym c.in-Pr.is)
           (says-most (before c.before.before.before.before.before.before.before.before.before.before.before.before.before.before.before.before.before.before.before.before.before.before.before.before.before.before.before.before.before.before.before.before.before.before.before.before.before.before.before.before.before.before.before.before.before) _ _ most_rounds c.pr.result _ (omega (arith, c.requires.2)) c.pr.ensures.fact_2);
@@ -228,7 +262,8 @@ shape_of-scratch-in-Path c =
 pub returns-in-Path : goal.returns-in-Path
 returns-in-Path c =
     record {
-      fact = subst (λ (x : Rule). LineSays (before c.before.before.before.before.before.before.before.before.before.before.before.before.before.before.before.before.before.before.before.before.before.before.before.before.before.before.before.before.before.before.before.before.before.before.before.before.before.before.before.before) (said c.before.before.before.before.before.before.before.before.before.before.before.before.before.before.before.before.before.before.before.before.before.before.before.before.before.before.before.before.before.before.before.before.before.before.before.before.before.before.before.before x) most_rounds c.path.result
+      fact = subst (λ (x : Rule). LineSays (before
+          c.before.before.before.before.before.before.before.before.before.before.before.before.before.before.before.before.before.before.before.before.before.before.before.before.before.before.before.before.before.before.before.before.before.before.before.before.before.before.before.before) (said c.before.before.before.before.before.before.before.before.before.before.before.before.before.before.before.before.before.before.before.before.before.before.before.before.before.before.before.before.before.before.before.before.before.before.before.before.before.before.before.before x) most_rounds c.path.result
           (table_of c.path.new.vars c.path.new.lows c.path.new.highs c.path.new.heads c.path.new.links c.path.result.count))
           (sym c.in-Path.is)
           c.path.ensures.fact_2;

@@ -5,7 +5,6 @@ use Prim.Native.Nat.{ℕ, ◌≤◌}
 use native.Mathlib.Omega.{arith}
 use lib.ListN.{length, take}
 use lib.Seq.{length-take-le}
-use borrow.Author.Rules.{rules}
 use Rattle.meaning.specs.Rules.{Line}
 use Rattle.table.specs.Nodes.{diagram_at}
 use Rattle.table.specs.Indexed.{Table, table_of, nodes_of}
@@ -60,7 +59,11 @@ module _ (c : lts.After-live_members tie.the-claims reads.Pre reads.Post tie.han
       (omega (arith, few, c.live_members-m.auto.live))
 
 pub live_members-m-requires : goal.live_members-m-requires
-live_members-m-requires c = (omega (arith, c.requires.2, c.requires.3), omega (arith, c.requires.2, c.requires.3, c.requires.5), omega (arith, c.requires.2))
+live_members-m-requires c = (
+  omega (arith, c.requires.2, c.requires.3),
+  omega (arith, c.requires.2, c.requires.3, c.requires.5),
+  omega (arith, c.requires.2),
+)
 
 pub slice_bounds-live-end : goal.slice_bounds-live-end
 slice_bounds-live-end c = omega (arith, few c.before.before.before.before.before.before.before.before.before, c.live_members-m.auto.live)
@@ -70,9 +73,14 @@ slice_bounds-judge_line-end c = sym (gathered-length c.before.before.before.befo
 
 pub judge_line-requires : goal.judge_line-requires
 judge_line-requires c = (
-  subst (λ (ms : List ℕ). Negatable (before c.before.before.before.before.before.before.before.before.before.before.before.before.before.before.before.before.before.before.before.before.before.before.before) ms c.args.memo.now c.args.g.0) (sym (gathered-is c.before.before.before.before.before.before.before.before.before.before.before)) (ready c.before.before.before.before.before.before.before.before.before.before.before.before.before.before.before.before.before.before.before.before.before.before.before),
+  subst (λ (ms : List ℕ). Negatable
+      (before c.before.before.before.before.before.before.before.before.before.before.before.before.before.before.before.before.before.before.before.before.before.before.before) ms c.args.memo.now c.args.g.0) (sym (gathered-is c.before.before.before.before.before.before.before.before.before.before.before)) (ready c.before.before.before.before.before.before.before.before.before.before.before.before.before.before.before.before.before.before.before.before.before.before.before),
   c.requires.1,
-  omega (arith, gathered-length c.before.before.before.before.before.before.before.before.before.before.before, few c.before.before.before.before.before.before.before.before.before.before.before),
+  omega (
+    arith,
+    gathered-length c.before.before.before.before.before.before.before.before.before.before.before,
+    few c.before.before.before.before.before.before.before.before.before.before.before,
+  ),
   c.requires.4,
   c.requires.6,
 )
@@ -104,8 +112,10 @@ shape_of-scratch c = c.judge_line.auto.scratch
 pub returns : goal.returns
 returns c =
     record {
-      fact = subst (λ (ms : List ℕ). LineSays (before c.before.before.before.before.before.before.before.before.before.before.before.before.before.before.before.before.before.before.before.before.before.before.before.before.before.before.before.before.before.before.before.before.before.before.before.before.before.before.before.before) (said c.before.before.before.before.before.before.before.before.before.before.before.before.before.before.before.before.before.before.before.before.before.before.before.before.before.before.before.before.before.before.before.before.before.before.before.before.before.before.before.before ms) most_rounds c.judge_line.result
-          (table_of c.judge_line.new.vars c.judge_line.new.lows c.judge_line.new.highs c.judge_line.new.heads c.judge_line.new.links c.judge_line.result.count))
+      fact = subst (λ (ms : List ℕ). LineSays (before
+          c.before.before.before.before.before.before.before.before.before.before.before.before.before.before.before.before.before.before.before.before.before.before.before.before.before.before.before.before.before.before.before.before.before.before.before.before.before.before.before.before) (said c.before.before.before.before.before.before.before.before.before.before.before.before.before.before.before.before.before.before.before.before.before.before.before.before.before.before.before.before.before.before.before.before.before.before.before.before.before.before.before.before ms) most_rounds c.judge_line.result
+          (table_of c.judge_line.new.vars c.judge_line.new.lows c.judge_line.new.highs c.judge_line.new.heads c.judge_line.new.links
+          c.judge_line.result.count))
           (gathered-is c.before.before.before.before.before.before.before.before.before.before.before.before.before.before.before.before.before.before.before.before.before.before.before.before.before.before.before.before) c.judge_line.ensures.fact;
       marks_after = c.judge_line.ensures.marks_after;
     }

@@ -2,7 +2,6 @@
 use mathlib.Core.Path.{◌≡◌, refl, ◌∙◌, subst}
 use mathlib.Core.List.{List}
 use Prim.Native.Nat.{ℕ, ◌≤◌}
-use borrow.Author.Rules.{rules}
 use native.Mathlib.Omega.{arith}
 use lib.ListN.{length}
 use Rattle.table.specs.Indexed.{Table, table_of}
@@ -40,16 +39,21 @@ module _ (c : lts.Past-After-known_told2 tie.the-claims reads.Pre reads.Post tie
   abbrev root : ℕ
   root = c.in-Fits.g.0
 
-  tested : LineTested 64 (state c.before.before.before.before.before.before.before.before.before.before.before.before.before.before.before) c.args.rule c.args.root.0 (Fits c.in-Fits.g)
+  tested : LineTested 64 (state c.before.before.before.before.before.before.before.before.before.before.before.before.before.before.before)
+      c.args.rule c.args.root.0 (Fits c.in-Fits.g)
   tested =
-      subst (LineTested 64 (state c.before.before.before.before.before.before.before.before.before.before.before.before.before.before.before) c.args.rule c.args.root.0) c.in-Fits.is
+      subst (LineTested 64 (state
+      c.before.before.before.before.before.before.before.before.before.before.before.before.before.before.before) c.args.rule
+      c.args.root.0) c.in-Fits.is
       (c.line_test.ensures c.args.heads.now c.args.links.now c.args.members.now
       c.args.struck.now)
 
-  none : line_refusal 64 (state c.before.before.before.before.before.before.before.before.before.before.before.before.before.before.before) c.args.rule c.args.root.0 ≡ 0
+  none : line_refusal 64 (state c.before.before.before.before.before.before.before.before.before.before.before.before.before.before.before)
+      c.args.rule c.args.root.0 ≡ 0
   none = tested.0
 
-  root_is : root ≡ entry_node (state c.before.before.before.before.before.before.before.before.before.before.before.before.before.before.before) c.args.root.0
+  root_is : root ≡ entry_node
+      (state c.before.before.before.before.before.before.before.before.before.before.before.before.before.before.before) c.args.root.0
   root_is = tested.1
 
 -- what the try leaves
@@ -68,14 +72,26 @@ module _ (c : lts.After-try_line tie.the-claims reads.Pre reads.Post tie.handed_
   said = c.try_line-j.ensures.fact.1
 
   scratch-room : 4096 ≤ length scratch₁
-  scratch-room = omega (arith, c.try_line-j.auto.scratch, (held c.before.before.before.before.before.before.before.before.before.before.before.before.before.before.before.before.before.before.before.before.before.before.before.before).entries.room)
+  scratch-room = omega (
+    arith,
+    c.try_line-j.auto.scratch,
+    (held c.before.before.before.before.before.before.before.before.before.before.before.before.before.before.before.before.before.before.before.before.before.before.before.before).entries.room,
+  )
 
 pub line_test-requires : goal.line_test-requires
-line_test-requires c = (good-readable (before c.before.before.before.before.before.before.before.before.before.before.before.before) (held c.before.before.before.before.before.before.before.before.before.before.before.before).entries.good, (held c.before.before.before.before.before.before.before.before.before.before.before.before).entries.inside, (held c.before.before.before.before.before.before.before.before.before.before.before.before).entries.few, (held c.before.before.before.before.before.before.before.before.before.before.before.before).entries.room, c.requires.2)
+line_test-requires c = (
+  good-readable (before c.before.before.before.before.before.before.before.before.before.before.before.before)
+      (held c.before.before.before.before.before.before.before.before.before.before.before.before).entries.good,
+  (held c.before.before.before.before.before.before.before.before.before.before.before.before).entries.inside,
+  (held c.before.before.before.before.before.before.before.before.before.before.before.before).entries.few,
+  (held c.before.before.before.before.before.before.before.before.before.before.before.before).entries.room,
+  c.requires.2,
+)
 
 pub try_line-j-requires : goal.try_line-j-requires
 try_line-j-requires c =
-    let few = few-members 64 (lent c.before.before.before.before.before.before.before.before.before.before.before.before.before.before.before.before.before.before.before.before.before.before.before.before) c.args.st (held c.before.before.before.before.before.before.before.before.before.before.before.before.before.before.before.before.before.before.before.before.before.before.before.before) c.args.rule c.args.root.0 (none c.before.before.before.before.before.before.before.before.before) (root c.before.before.before.before.before.before.before.before.before) (root_is c.before.before.before.before.before.before.before.before.before) in (
+    let few = few-members 64 (lent
+    c.before.before.before.before.before.before.before.before.before.before.before.before.before.before.before.before.before.before.before.before.before.before.before.before) c.args.st (held c.before.before.before.before.before.before.before.before.before.before.before.before.before.before.before.before.before.before.before.before.before.before.before.before) c.args.rule c.args.root.0 (none c.before.before.before.before.before.before.before.before.before) (root c.before.before.before.before.before.before.before.before.before) (root_is c.before.before.before.before.before.before.before.before.before) in (
       line-ready 64 (lent c.before.before.before.before.before.before.before.before.before.before.before.before.before.before.before.before.before.before.before.before.before.before.before.before) c.args.st (held c.before.before.before.before.before.before.before.before.before.before.before.before.before.before.before.before.before.before.before.before.before.before.before.before) c.args.rule c.args.root.0 (none c.before.before.before.before.before.before.before.before.before) (root c.before.before.before.before.before.before.before.before.before) (root_is c.before.before.before.before.before.before.before.before.before)
           c.line_test.new.memo
           (omega (arith, c.requires.2, c.line_test.auto.memo)),
@@ -89,7 +105,8 @@ try_line-j-requires c =
 
 pub ended-requires : goal.ended-requires
 ended-requires c =
-    let few = few-members 64 (lent c.before.before.before.before.before.before.before.before.before.before.before.before.before.before.before.before.before.before.before.before.before.before.before.before.before.before.before.before.before.before.before.before.before.before.before.before.before.before.before.before.before.before) c.args.st (held c.before.before.before.before.before.before.before.before.before.before.before.before.before.before.before.before.before.before.before.before.before.before.before.before.before.before.before.before.before.before.before.before.before.before.before.before.before.before.before.before.before.before) c.args.rule c.args.root.0 (none c.before.before.before.before.before.before.before.before.before.before.before.before.before.before.before.before.before.before.before.before.before.before.before.before.before.before.before) (root c.before.before.before.before.before.before.before.before.before.before.before.before.before.before.before.before.before.before.before.before.before.before.before.before.before.before.before) (root_is c.before.before.before.before.before.before.before.before.before.before.before.before.before.before.before.before.before.before.before.before.before.before.before.before.before.before.before) in
+    let few = few-members 64 (lent
+    c.before.before.before.before.before.before.before.before.before.before.before.before.before.before.before.before.before.before.before.before.before.before.before.before.before.before.before.before.before.before.before.before.before.before.before.before.before.before.before.before.before.before) c.args.st (held c.before.before.before.before.before.before.before.before.before.before.before.before.before.before.before.before.before.before.before.before.before.before.before.before.before.before.before.before.before.before.before.before.before.before.before.before.before.before.before.before.before.before) c.args.rule c.args.root.0 (none c.before.before.before.before.before.before.before.before.before.before.before.before.before.before.before.before.before.before.before.before.before.before.before.before.before.before.before) (root c.before.before.before.before.before.before.before.before.before.before.before.before.before.before.before.before.before.before.before.before.before.before.before.before.before.before.before) (root_is c.before.before.before.before.before.before.before.before.before.before.before.before.before.before.before.before.before.before.before.before.before.before.before.before.before.before.before) in
     (few, (held c.before.before.before.before.before.before.before.before.before.before.before.before.before.before.before.before.before.before.before.before.before.before.before.before.before.before.before.before.before.before.before.before.before.before.before.before.before.before.before.before.before.before).room, (held c.before.before.before.before.before.before.before.before.before.before.before.before.before.before.before.before.before.before.before.before.before.before.before.before.before.before.before.before.before.before.before.before.before.before.before.before.before.before.before.before.before.before).lines, omega (arith, (held c.before.before.before.before.before.before.before.before.before.before.before.before.before.before.before.before.before.before.before.before.before.before.before.before.before.before.before.before.before.before.before.before.before.before.before.before.before.before.before.before.before.before).rounds, (held c.before.before.before.before.before.before.before.before.before.before.before.before.before.before.before.before.before.before.before.before.before.before.before.before.before.before.before.before.before.before.before.before.before.before.before.before.before.before.before.before.before.before).lines, (said c.before.before.before.before.before.before.before.before.before.before.before.before.before.before.before.before.before.before).most))
 
 pub shape_of-vars-in-Refused : goal.shape_of-vars-in-Refused
@@ -109,10 +126,17 @@ shape_of-scratch-in-Refused c = refl
 
 pub returns-in-Refused : goal.returns-in-Refused
 returns-in-Refused c =
-    let told = subst (LineTested 64 (state c.before.before.before.before.before.before.before.before.before.before.before.before.before.before.before.before) c.args.rule c.args.root.0) c.in-Refused.is
+    let told = subst (LineTested 64
+    (state c.before.before.before.before.before.before.before.before.before.before.before.before.before.before.before.before)
+    c.args.rule c.args.root.0) c.in-Refused.is
     (c.line_test.ensures c.args.heads.now c.args.links.now c.args.members.now
     c.args.struck.now) in
-    record { stepped = (λ n H. line_refused n (lent c.before.before.before.before.before.before.before.before.before.before.before.before.before.before.before.before) c.args.st H c.args.rule c.args.root.0 _ told.0 told.1); marks_after = c.requires.1 }
+    record {
+      stepped = (λ n H. line_refused n (lent
+          c.before.before.before.before.before.before.before.before.before.before.before.before.before.before.before.before) c.args.st H
+          c.args.rule c.args.root.0 _ told.0 told.1);
+      marks_after = c.requires.1;
+    }
 
 pub shape_of-vars-in-Fits : goal.shape_of-vars-in-Fits
 shape_of-vars-in-Fits c = c.try_line-j.auto.vars
@@ -144,7 +168,8 @@ shape_of-scratch-in-Fits c = c.try_line-j.auto.scratch
 pub returns-in-Fits : goal.returns-in-Fits
 returns-in-Fits c =
     record {
-      stepped = (λ n H. line-stepped n (lent c.before.before.before.before.before.before.before.before.before.before.before.before.before.before.before.before.before.before.before.before.before.before.before.before.before.before.before.before.before.before.before.before.before.before.before.before.before.before.before.before.before.before.before.before.before) c.args.st H c.args.rule c.args.root.0 (none c.before.before.before.before.before.before.before.before.before.before.before.before.before.before.before.before.before.before.before.before.before.before.before.before.before.before.before.before.before.before) (root c.before.before.before.before.before.before.before.before.before.before.before.before.before.before.before.before.before.before.before.before.before.before.before.before.before.before.before.before.before.before) (root_is c.before.before.before.before.before.before.before.before.before.before.before.before.before.before.before.before.before.before.before.before.before.before.before.before.before.before.before.before.before.before) c.try_line-j.result
+      stepped = (λ n H. line-stepped n
+          (lent c.before.before.before.before.before.before.before.before.before.before.before.before.before.before.before.before.before.before.before.before.before.before.before.before.before.before.before.before.before.before.before.before.before.before.before.before.before.before.before.before.before.before.before.before.before) c.args.st H c.args.rule c.args.root.0 (none c.before.before.before.before.before.before.before.before.before.before.before.before.before.before.before.before.before.before.before.before.before.before.before.before.before.before.before.before.before.before) (root c.before.before.before.before.before.before.before.before.before.before.before.before.before.before.before.before.before.before.before.before.before.before.before.before.before.before.before.before.before.before) (root_is c.before.before.before.before.before.before.before.before.before.before.before.before.before.before.before.before.before.before.before.before.before.before.before.before.before.before.before.before.before.before) c.try_line-j.result
           (said c.before.before.before.before.before.before.before.before.before.before.before.before.before.before.before.before.before.before.before.before.before) (table₁ c.before.before.before.before.before.before.before.before.before.before.before.before.before.before.before.before.before.before.before.before.before) (back c.before.before.before.before.before.before.before.before.before.before.before.before.before.before.before.before.before.before.before.before.before) (scratch₁ c.before.before.before.before.before.before.before.before.before.before.before.before.before.before.before.before.before.before.before.before.before) (scratch-room c.before.before.before.before.before.before.before.before.before.before.before.before.before.before.before.before.before.before.before.before.before) c.ended.ensures.value c.ended.ensures.members_after);
       marks_after = c.try_line-j.ensures.marks_after;
     }

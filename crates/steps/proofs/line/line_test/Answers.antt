@@ -6,7 +6,6 @@ use Prim.Native.Nat.{ℕ, ◌+◌, ◌≤◌, ◌<◌}
 use native.Mathlib.Omega.{arith}
 use lib.ListN.{length}
 use borrow.Author.Tests.{not-true, not-false, ltb-true, le-leb, lt-leb}
-use borrow.Author.Rules.{rules}
 use Rattle.records.specs.declared.Rule.{Rule}
 use Rattle.verdict.specs.Steps as check
 use Rattle.verdict.specs.Steps.{is_entry}
@@ -33,7 +32,8 @@ module _ (s : lts.Start tie.the-claims reads.Pre reads.Post) (ds ks ms ss : List
 -- the entry is there
 module _ (c : lts.Else1 tie.the-claims reads.Pre reads.Post) (ds ks ms ss : List ℕ) where
   entry : is_entry (state c.before.before.before.before.before.before.before ds ks ms ss) c.args.root.0 ≡ true
-  entry = entry-told (lent c.before.before.before.before.before.before.before ds ks ms ss) c.args.st (room c.before.before.before.before.before.before.before ds ks ms ss) _ _ _ c.is_entry.ensures
+  entry = entry-told (lent c.before.before.before.before.before.before.before ds ks ms ss) c.args.st
+      (room c.before.before.before.before.before.before.before ds ks ms ss) _ _ _ c.is_entry.ensures
       (not-false _ c.if-not-is_entry.false-raw)
 
   there : c.args.root.0 < c.args.st.entries + 2
@@ -45,7 +45,8 @@ is_entry-requires c = c.requires.2
 pub returns-then-not-is_entry : goal.returns-then-not-is_entry
 returns-then-not-is_entry c = λ ds ks ms ss. (
   line-13 64 (state c.before.before.before.before.before.before.before.before ds ks ms ss) c.args.root.0 c.args.rule
-      (entry-told (lent c.before.before.before.before.before.before.before.before ds ks ms ss) c.args.st (room c.before.before.before.before.before.before.before.before ds ks ms ss) _ _ _ c.is_entry.ensures
+      (entry-told (lent c.before.before.before.before.before.before.before.before ds ks ms ss) c.args.st
+      (room c.before.before.before.before.before.before.before.before ds ks ms ss) _ _ _ c.is_entry.ensures
       (not-true _ c.if-not-is_entry.true-raw)),
   λ e. omega (arith, e),
 )
@@ -56,16 +57,22 @@ entry_node-g-requires c = (room c.before.before.before.before.before.before.befo
 pub returns-then-waits : goal.returns-then-waits
 returns-then-waits c = λ ds ks ms ss. (
   rup-16 64 _ _ (entry c.before.before.before.before.before.before ds ks ms ss)
-      (waits-is (lent c.before.before.before.before.before.before.before.before.before.before.before.before.before ds ks ms ss) c.args.st _ _ c.waits.ensures c.if-waits.true)
-      ∙ ap (λ (r : Rule). line_refusal 64 (state c.before.before.before.before.before.before.before.before.before.before.before.before.before ds ks ms ss) r c.args.root.0) (sym c.in-Rup.is),
+      (waits-is (lent c.before.before.before.before.before.before.before.before.before.before.before.before.before ds ks ms ss) c.args.st _
+      _ c.waits.ensures c.if-waits.true)
+      ∙ ap (λ (r : Rule). line_refusal 64 (state
+      c.before.before.before.before.before.before.before.before.before.before.before.before.before ds ks ms ss) r c.args.root.0)
+      (sym c.in-Rup.is),
   λ e. omega (arith, e),
 )
 
 pub returns-then-st-ge1024 : goal.returns-then-st-ge1024
 returns-then-st-ge1024 c = λ ds ks ms ss. (
   rup-22 64 _ _ (entry c.before.before.before.before.before.before.before.before ds ks ms ss)
-      (waits-is (lent c.before.before.before.before.before.before.before.before.before.before.before.before.before.before.before ds ks ms ss) c.args.st _ _ c.waits.ensures c.if-waits.false)
-      (le-leb 1024 _ c.if-st-ge1024.true) ∙ ap (λ (r : Rule). line_refusal 64 (state c.before.before.before.before.before.before.before.before.before.before.before.before.before.before.before ds ks ms ss) r c.args.root.0)
+      (waits-is (lent c.before.before.before.before.before.before.before.before.before.before.before.before.before.before.before ds ks ms
+      ss) c.args.st _ _ c.waits.ensures c.if-waits.false)
+      (le-leb 1024 _ c.if-st-ge1024.true) ∙ ap (λ (r : Rule). line_refusal 64
+      (state c.before.before.before.before.before.before.before.before.before.before.before.before.before.before.before ds ks ms ss) r
+      c.args.root.0)
       (sym c.in-Rup.is),
   λ e. omega (arith, e),
 )
@@ -75,23 +82,30 @@ returns-then-g-eq1 c = λ ds ks ms ss. (
   rup-17 64 _ _ (entry c.before.before.before.before.before.before.before.before.before.before ds ks ms ss)
       (waits-is (lent c.before.before.before.before.before.before.before.before.before.before.before.before.before.before.before.before.before ds ks ms ss) c.args.st _ _ c.waits.ensures c.if-waits.false)
       (lt-leb 1024 _ c.if-st-ge1024.false)
-      (is_one (lent c.before.before.before.before.before.before.before.before.before.before.before.before.before.before.before.before.before ds ks ms ss) c.args.st _ _ c.entry_node-g.ensures c.if-g-eq1.true)
-      ∙ ap (λ (r : Rule). line_refusal 64 (state c.before.before.before.before.before.before.before.before.before.before.before.before.before.before.before.before.before ds ks ms ss) r c.args.root.0) (sym c.in-Rup.is),
+      (is_one (lent c.before.before.before.before.before.before.before.before.before.before.before.before.before.before.before.before.before
+      ds ks ms ss) c.args.st _ _ c.entry_node-g.ensures c.if-g-eq1.true)
+      ∙ ap (λ (r : Rule). line_refusal 64 (state
+      c.before.before.before.before.before.before.before.before.before.before.before.before.before.before.before.before.before ds ks ms
+      ss) r c.args.root.0) (sym c.in-Rup.is),
   λ e. omega (arith, e),
 )
 
 pub returns-then-st-ge1024-2 : goal.returns-then-st-ge1024-2
 returns-then-st-ge1024-2 c = λ ds ks ms ss. (
   pr-22 64 _ _ (entry c.before.before.before.before.before ds ks ms ss) (le-leb 1024 _ c.if-st-ge1024-2.true)
-      ∙ ap (λ (r : Rule). line_refusal 64 (state c.before.before.before.before.before.before.before.before.before.before.before.before ds ks ms ss) r c.args.root.0) (sym c.in-Pr.is),
+      ∙ ap (λ (r : Rule). line_refusal 64 (state c.before.before.before.before.before.before.before.before.before.before.before.before ds ks
+      ms ss) r c.args.root.0) (sym c.in-Pr.is),
   λ e. omega (arith, e),
 )
 
 pub returns-then-g-eq1-2 : goal.returns-then-g-eq1-2
 returns-then-g-eq1-2 c = λ ds ks ms ss. (
   pr-17 64 _ _ (entry c.before.before.before.before.before.before.before ds ks ms ss) (lt-leb 1024 _ c.if-st-ge1024-2.false)
-      (is_one (lent c.before.before.before.before.before.before.before.before.before.before.before.before.before.before ds ks ms ss) c.args.st _ _ c.entry_node-g.ensures c.if-g-eq1-2.true)
-      ∙ ap (λ (r : Rule). line_refusal 64 (state c.before.before.before.before.before.before.before.before.before.before.before.before.before.before ds ks ms ss) r c.args.root.0) (sym c.in-Pr.is),
+      (is_one (lent c.before.before.before.before.before.before.before.before.before.before.before.before.before.before ds ks ms ss)
+      c.args.st _ _ c.entry_node-g.ensures c.if-g-eq1-2.true)
+      ∙ ap (λ (r : Rule). line_refusal 64 (state
+      c.before.before.before.before.before.before.before.before.before.before.before.before.before.before ds ks ms ss) r c.args.root.0)
+      (sym c.in-Pr.is),
   λ e. omega (arith, e),
 )
 
@@ -99,34 +113,45 @@ pub is_one-requires : goal.is_one-requires
 is_one-requires c = (
   c.requires.0,
   subst (λ (x : ℕ). x < c.args.st.count) (sym c.entry_node-g.ensures)
-      (node-inside c.args.scratch.now c.args.st.entries (room c.before.before.before.before.before.before.before.before.before.before.before.before.before.before.before.before [] [] [] []) c.args.st.count c.requires.0.least c.requires.1
+      (node-inside c.args.scratch.now c.args.st.entries
+      (room c.before.before.before.before.before.before.before.before.before.before.before.before.before.before.before.before [] [] []
+      []) c.args.st.count c.requires.0.least c.requires.1
       c.args.root.0 (there c.before.before.before.before.before.before.before.before.before [] [] [] [])),
   omega (arith, c.requires.4),
 )
 
 pub returns-then-not-is_one : goal.returns-then-not-is_one
 returns-then-not-is_one c = λ ds ks ms ss. (
-  pr-18 64 _ _ (entry c.before.before.before.before.before.before.before.before.before.before.before.before.before ds ks ms ss) (lt-leb 1024 _ c.if-st-ge1024-2.false)
+  pr-18 64 _ _ (entry c.before.before.before.before.before.before.before.before.before.before.before.before.before ds ks ms ss)
+      (lt-leb 1024 _ c.if-st-ge1024-2.false)
       (not-one (lent c.before.before.before.before.before.before.before.before.before.before.before.before.before.before.before.before.before.before.before.before ds ks ms ss) c.args.st _ _ c.entry_node-g.ensures c.if-g-eq1-2.false)
       (shut-is (lent c.before.before.before.before.before.before.before.before.before.before.before.before.before.before.before.before.before.before.before.before ds ks ms ss) c.args.st _ _ c.entry_node-g.ensures _ _
       c.is_one.ensures (not-true _ c.if-not-is_one.true-raw))
-      ∙ ap (λ (r : Rule). line_refusal 64 (state c.before.before.before.before.before.before.before.before.before.before.before.before.before.before.before.before.before.before.before.before ds ks ms ss) r c.args.root.0) (sym c.in-Pr.is),
+      ∙ ap (λ (r : Rule). line_refusal 64 (state
+      c.before.before.before.before.before.before.before.before.before.before.before.before.before.before.before.before.before.before.before.before ds ks ms ss) r c.args.root.0) (sym c.in-Pr.is),
   λ e. omega (arith, e),
 )
 
 pub returns-then-waits-2 : goal.returns-then-waits-2
 returns-then-waits-2 c = λ ds ks ms ss. (
   path-16 64 _ _ (entry c.before.before.before.before.before.before ds ks ms ss)
-      (waits-is (lent c.before.before.before.before.before.before.before.before.before.before.before.before.before ds ks ms ss) c.args.st _ _ c.waits-in-Path.ensures c.if-waits-2.true)
-      ∙ ap (λ (r : Rule). line_refusal 64 (state c.before.before.before.before.before.before.before.before.before.before.before.before.before ds ks ms ss) r c.args.root.0) (sym c.in-Path.is),
+      (waits-is (lent c.before.before.before.before.before.before.before.before.before.before.before.before.before ds ks ms ss) c.args.st _
+      _ c.waits-in-Path.ensures c.if-waits-2.true)
+      ∙ ap (λ (r : Rule). line_refusal 64 (state
+      c.before.before.before.before.before.before.before.before.before.before.before.before.before ds ks ms ss) r c.args.root.0)
+      (sym c.in-Path.is),
   λ e. omega (arith, e),
 )
 
 pub returns-then-st-ge1024-3 : goal.returns-then-st-ge1024-3
 returns-then-st-ge1024-3 c = λ ds ks ms ss. (
   path-22 64 _ _ (entry c.before.before.before.before.before.before.before.before ds ks ms ss)
-      (waits-is (lent c.before.before.before.before.before.before.before.before.before.before.before.before.before.before.before ds ks ms ss) c.args.st _ _ c.waits-in-Path.ensures c.if-waits-2.false)
-      (le-leb 1024 _ c.if-st-ge1024-3.true) ∙ ap (λ (r : Rule). line_refusal 64 (state c.before.before.before.before.before.before.before.before.before.before.before.before.before.before.before ds ks ms ss) r c.args.root.0)
+      (waits-is (lent c.before.before.before.before.before.before.before.before.before.before.before.before.before.before.before ds ks ms
+      ss) c.args.st _ _ c.waits-in-Path.ensures c.if-waits-2.false)
+      (le-leb 1024 _ c.if-st-ge1024-3.true) ∙ ap
+      (λ (r : Rule). line_refusal 64 (state
+      c.before.before.before.before.before.before.before.before.before.before.before.before.before.before.before ds ks ms ss) r
+      c.args.root.0)
       (sym c.in-Path.is),
   λ e. omega (arith, e),
 )
@@ -136,8 +161,11 @@ returns-then-g-eq1-3 c = λ ds ks ms ss. (
   path-17 64 _ _ (entry c.before.before.before.before.before.before.before.before.before.before ds ks ms ss)
       (waits-is (lent c.before.before.before.before.before.before.before.before.before.before.before.before.before.before.before.before.before ds ks ms ss) c.args.st _ _ c.waits-in-Path.ensures c.if-waits-2.false)
       (lt-leb 1024 _ c.if-st-ge1024-3.false)
-      (is_one (lent c.before.before.before.before.before.before.before.before.before.before.before.before.before.before.before.before.before ds ks ms ss) c.args.st _ _ c.entry_node-g.ensures c.if-g-eq1-3.true)
-      ∙ ap (λ (r : Rule). line_refusal 64 (state c.before.before.before.before.before.before.before.before.before.before.before.before.before.before.before.before.before ds ks ms ss) r c.args.root.0) (sym c.in-Path.is),
+      (is_one (lent c.before.before.before.before.before.before.before.before.before.before.before.before.before.before.before.before.before
+      ds ks ms ss) c.args.st _ _ c.entry_node-g.ensures c.if-g-eq1-3.true)
+      ∙ ap (λ (r : Rule). line_refusal 64 (state
+      c.before.before.before.before.before.before.before.before.before.before.before.before.before.before.before.before.before ds ks ms
+      ss) r c.args.root.0) (sym c.in-Path.is),
   λ e. omega (arith, e),
 )
 
@@ -145,7 +173,9 @@ pub paths_left-requires : goal.paths_left-requires
 paths_left-requires c = (
   c.requires.0,
   subst (λ (x : ℕ). x < c.args.st.count) (sym c.entry_node-g.ensures)
-      (node-inside c.args.scratch.now c.args.st.entries (room c.before.before.before.before.before.before.before.before.before.before.before.before.before.before.before.before.before [] [] [] []) c.args.st.count c.requires.0.least c.requires.1
+      (node-inside c.args.scratch.now c.args.st.entries
+      (room c.before.before.before.before.before.before.before.before.before.before.before.before.before.before.before.before.before []
+      [] [] []) c.args.st.count c.requires.0.least c.requires.1
       c.args.root.0 (there c.before.before.before.before.before.before.before.before.before.before [] [] [] [])),
 )
 
@@ -161,7 +191,8 @@ returns-then-paths_left-eq0 c = λ ds ks ms ss. (
             c.paths_left.ensures),
         c.if-paths_left-eq0.true,
       )) ∙ ap
-      (λ (r : Rule). line_refusal 64 (state c.before.before.before.before.before.before.before.before.before.before.before.before.before.before.before.before.before.before.before ds ks ms ss) r c.args.root.0) (sym c.in-Path.is),
+      (λ (r : Rule). line_refusal 64
+      (state c.before.before.before.before.before.before.before.before.before.before.before.before.before.before.before.before.before.before.before ds ks ms ss) r c.args.root.0) (sym c.in-Path.is),
   λ e. omega (arith, e),
 )
 
@@ -171,18 +202,25 @@ returns-else-g-eq1 c = λ ds ks ms ss. (
       (waits-is (lent c.before.before.before.before.before.before.before.before.before.before.before.before.before.before.before.before.before ds ks ms ss) c.args.st _ _ c.waits.ensures c.if-waits.false)
       (lt-leb 1024 _ c.if-st-ge1024.false)
       (not-one (lent c.before.before.before.before.before.before.before.before.before.before.before.before.before.before.before.before.before ds ks ms ss) c.args.st _ _ c.entry_node-g.ensures c.if-g-eq1.false)
-      ∙ ap (λ (r : Rule). line_refusal 64 (state c.before.before.before.before.before.before.before.before.before.before.before.before.before.before.before.before.before ds ks ms ss) r c.args.root.0) (sym c.in-Rup.is)),
-  c.entry_node-g.ensures ∙ sym (node-is-at (lent c.before.before.before.before.before.before.before.before.before.before.before.before.before.before.before.before.before ds ks ms ss) c.args.st c.args.root.0),
+      ∙ ap (λ (r : Rule). line_refusal 64 (state
+      c.before.before.before.before.before.before.before.before.before.before.before.before.before.before.before.before.before ds ks ms
+      ss) r c.args.root.0) (sym c.in-Rup.is)),
+  c.entry_node-g.ensures ∙ sym (node-is-at (lent
+      c.before.before.before.before.before.before.before.before.before.before.before.before.before.before.before.before.before ds ks ms ss)
+      c.args.st c.args.root.0),
 )
 
 pub returns-else-not-is_one : goal.returns-else-not-is_one
 returns-else-not-is_one c = λ ds ks ms ss. (
-  sym (pr-0 64 _ _ (entry c.before.before.before.before.before.before.before.before.before.before.before.before.before ds ks ms ss) (lt-leb 1024 _ c.if-st-ge1024-2.false)
+  sym (pr-0 64 _ _ (entry c.before.before.before.before.before.before.before.before.before.before.before.before.before ds ks ms ss)
+      (lt-leb 1024 _ c.if-st-ge1024-2.false)
       (not-one (lent c.before.before.before.before.before.before.before.before.before.before.before.before.before.before.before.before.before.before.before.before ds ks ms ss) c.args.st _ _ c.entry_node-g.ensures c.if-g-eq1-2.false)
       (shut-is (lent c.before.before.before.before.before.before.before.before.before.before.before.before.before.before.before.before.before.before.before.before ds ks ms ss) c.args.st _ _ c.entry_node-g.ensures _ _
       c.is_one.ensures (not-false _ c.if-not-is_one.false-raw))
-      ∙ ap (λ (r : Rule). line_refusal 64 (state c.before.before.before.before.before.before.before.before.before.before.before.before.before.before.before.before.before.before.before.before ds ks ms ss) r c.args.root.0) (sym c.in-Pr.is)),
-  c.entry_node-g.ensures ∙ sym (node-is-at (lent c.before.before.before.before.before.before.before.before.before.before.before.before.before.before.before.before.before.before.before.before ds ks ms ss) c.args.st c.args.root.0),
+      ∙ ap (λ (r : Rule). line_refusal 64 (state
+      c.before.before.before.before.before.before.before.before.before.before.before.before.before.before.before.before.before.before.before.before ds ks ms ss) r c.args.root.0) (sym c.in-Pr.is)),
+  c.entry_node-g.ensures ∙ sym (node-is-at (lent
+      c.before.before.before.before.before.before.before.before.before.before.before.before.before.before.before.before.before.before.before.before ds ks ms ss) c.args.st c.args.root.0),
 )
 
 pub returns-else-paths_left-eq0 : goal.returns-else-paths_left-eq0
@@ -197,6 +235,9 @@ returns-else-paths_left-eq0 c = λ ds ks ms ss. (
             c.paths_left.ensures),
         c.if-paths_left-eq0.false,
       )) ∙ ap
-      (λ (r : Rule). line_refusal 64 (state c.before.before.before.before.before.before.before.before.before.before.before.before.before.before.before.before.before.before.before ds ks ms ss) r c.args.root.0) (sym c.in-Path.is)),
-  c.entry_node-g.ensures ∙ sym (node-is-at (lent c.before.before.before.before.before.before.before.before.before.before.before.before.before.before.before.before.before.before.before ds ks ms ss) c.args.st c.args.root.0),
+      (λ (r : Rule). line_refusal 64
+      (state c.before.before.before.before.before.before.before.before.before.before.before.before.before.before.before.before.before.before.before ds ks ms ss) r c.args.root.0) (sym c.in-Path.is)),
+  c.entry_node-g.ensures ∙ sym (node-is-at (lent
+      c.before.before.before.before.before.before.before.before.before.before.before.before.before.before.before.before.before.before.before
+      ds ks ms ss) c.args.st c.args.root.0),
 )

@@ -48,7 +48,8 @@ shape_of-scratch c = c.judge_live-j.auto.scratch
 pub returns : goal.returns
 returns c =
     record {
-      fact = tried _ c.requires.0.ready.good _ _ (judged c.before.before.before.before.before.before.before.before.before.before.before.before.before.before.before.before.before.before.before.before.before.before.before.before.before.before.before.before.before.before.before.before.before) _ c.judge_live-j.ensures.fact
+      fact = tried _ c.requires.0.ready.good _ _
+          (judged c.before.before.before.before.before.before.before.before.before.before.before.before.before.before.before.before.before.before.before.before.before.before.before.before.before.before.before.before.before.before.before.before.before) _ c.judge_live-j.ensures.fact
           c.drop_to.ensures;
       marks_after = c.judge_live-j.ensures.marks_after;
     }

@@ -3,7 +3,6 @@ use mathlib.Core.Path.{sym, subst}
 use Rattle.steps.proofs.strike.live_members.Goals.{then-struck-i-eq0, else-struck-i-eq0}
 use mathlib.Core.List.{List}
 use Prim.Native.Nat.{ℕ, ◌+◌, ◌-◌}
-use borrow.Author.Rules.{rules}
 use Rattle.steps.proofs.Strikings.{Gathered, gathered_none, gathered-live, gathered-struck, gathered-all}
 use Rattle.steps.proofs.strike.live_members.Goals as goal
 
@@ -22,7 +21,8 @@ loop-i-preserved c =
           subst (λ (live : List ℕ). Gathered c.args.struck.now c.args.members.now c.args.m c.args.live.now live
           (c.loop-i.i + 1) c.if-struck-i-eq0.count) (sym w.live-is)
           (subst (Gathered c.args.struck.now c.args.members.now c.args.m c.args.live.now _ (c.loop-i.i + 1)) (sym w.count-is)
-          (gathered-struck _ _ _ _ _ _ _ c.loop-i.invariant c.loop-i-test.true c.requires.1 c.requires.0 c.requires.2 w.if-struck-i-eq0.false))
+          (gathered-struck _ _ _ _ _ _ _ c.loop-i.invariant c.loop-i-test.true c.requires.1 c.requires.0 c.requires.2
+          w.if-struck-i-eq0.false))
     ]
 
 pub returns : goal.returns

@@ -1,5 +1,4 @@
 -- `strike_step`: the ways out are laws of Strikings. Assumes nothing.
-use borrow.Author.Rules.{rules}
 use native.Mathlib.Omega.{arith}
 use Rattle.state.specs.States.{lent_of}
 use Rattle.entries.proofs.Entries.{waits-is}

@@ -2,7 +2,6 @@
 use mathlib.Core.Path.{sym, ◌∙◌}
 use Prim.Native.Nat.{◌≤◌}
 use native.Mathlib.Omega.{arith}
-use borrow.Author.Rules.{rules}
 use Rattle.entries.proofs.Entries.{is-variable, variable-zero, variable-beyond}
 use Rattle.steps.proofs.Witnesses.{refused-12, refused-15, refused-15-negative, witness-taken}
 use Rattle.steps.proofs.witness.witness_step.Reads as reads
@@ -32,7 +31,8 @@ pub in_word-requires-2 : goal.in_word-requires-2
 in_word-requires-2 c = (is_one c.before.before.before, omega (arith, c.if-variables-v.false, c.requires))
 
 pub returns-then-in_word-2 : goal.returns-then-in_word-2
-returns-then-in_word-2 c = λ l H. refused-15-negative _ _ _ _ _ (is-variable _ _ (is_one c.before.before.before.before.before) c.if-variables-v.false)
+returns-then-in_word-2 c = λ l H. refused-15-negative _ _ _ _ _
+    (is-variable _ _ (is_one c.before.before.before.before.before) c.if-variables-v.false)
     (sym c.in_word-2.ensures ∙ c.if-in_word-2.true)
 
 pub with_literal-set-requires : goal.with_literal-set-requires

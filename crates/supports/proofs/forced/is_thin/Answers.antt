@@ -1,7 +1,6 @@
 -- The walk ends, for a child has a smaller number. Assumes nothing.
 use native.Mathlib.Omega.{arith}
 use Rattle.supports.proofs.ForcedWords.{children-less}
-use Rattle.supports.proofs.forced.is_thin.Invariants.{invariant-loop-k}
 use Rattle.supports.proofs.forced.is_thin.Goals as goal
 
 pub loop-k-smaller-then-low-lt2 : goal.loop-k-smaller-then-low-lt2

@@ -1,5 +1,5 @@
 -- `size_fits` is the definition's test. Assumes nothing.
-use Rattle.std.proofs.Common.{sym, rules, eq-eqb, ne_eqb, le-leb}
+use Rattle.std.proofs.Common.{sym, eq-eqb, ne_eqb, le-leb}
 use borrow.Author.Tests.{lt-leb}
 use Rattle.table.specs.Columns.{size_fits}
 use Rattle.table.proofs.test.size_fits.Goals as goal

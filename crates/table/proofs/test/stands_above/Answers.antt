@@ -1,5 +1,5 @@
 -- `stands_above` is the definition's test. Assumes nothing.
-use Rattle.std.proofs.Common.{sym, rules}
+use Rattle.std.proofs.Common.{sym}
 use Rattle.table.proofs.Places.{above-constant, above-node}
 use Rattle.table.proofs.test.stands_above.Goals as goal
 

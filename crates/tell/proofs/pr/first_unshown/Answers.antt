@@ -49,26 +49,31 @@ module _ (s : lts.Start tie.the-claims reads.Pre reads.Post goal.the-invariant-l
       subst (λ (k : ℕ). k < s.args.count) (get_or-take s.args.many s.args.members.now i 0 h)
       (s.requires.fact.6 i (omega (arith, h, length-take-le s.args.many s.args.members.now s.requires.fact.4)))
 
-module _ (a : lts.After-passes tie.the-claims reads.Pre reads.Post goal.the-invariant-loop-i goal.the-decreases-loop-i tie.handed_clauses) where
-  more : a.loop-i.i < a.args.many
-  more = a.loop-i-test.true
+module _ (a : lts.After-passes tie.the-claims reads.Pre reads.Post goal.the-invariant-loop-i goal.the-decreases-loop-i tie.handed_clauses)
+  where
+    more : a.loop-i.i < a.args.many
+    more = a.loop-i-test.true
 
-  as_before : table_of a.passes.new.vars a.passes.new.lows a.passes.new.highs a.passes.new.heads a.passes.new.links
-      a.args.count ≡ before a.before.before.before.before.before.before.before.before.before.before.before.before.before.before.before.before.before.before.before.before.before.before.before.before.before
-  as_before = a.passes.ensures.fact_3.0 ∙ a.loop-i.invariant.0
+    as_before : table_of a.passes.new.vars a.passes.new.lows a.passes.new.highs a.passes.new.heads a.passes.new.links
+        a.args.count ≡ before a.before.before.before.before.before.before.before.before.before.before.before.before.before.before.before.before.before.before.before.before.before.before.before.before.before
+    as_before = a.passes.ensures.fact_3.0 ∙ a.loop-i.invariant.0
 
-  -- what it says, over the table as it was
-  told : a.passes.result ≡ (not (live_at a.before.before.before.before.before.before.before.before.before.before.before.before.before.before.before.before.before.before.before.before.before.before.before.before.before a.loop-i.i) || (one_on a.before.before.before.before.before.before.before.before.before.before.before.before.before.before.before.before.before.before.before.before.before.before.before.before.before (before a.before.before.before.before.before.before.before.before.before.before.before.before.before.before.before.before.before.before.before.before.before.before.before.before.before) a.loop-i.i).shown)
-  told = a.passes.ensures.fact_3.1 ∙ ap (λ (t : Table). not (live_at a.before.before.before.before.before.before.before.before.before.before.before.before.before.before.before.before.before.before.before.before.before.before.before.before.before a.loop-i.i) || (one_on a.before.before.before.before.before.before.before.before.before.before.before.before.before.before.before.before.before.before.before.before.before.before.before.before.before t a.loop-i.i).shown)
-      a.loop-i.invariant.0
+    -- what it says, over the table as it was
+    told : a.passes.result ≡ (not
+        (live_at a.before.before.before.before.before.before.before.before.before.before.before.before.before.before.before.before.before.before.before.before.before.before.before.before.before a.loop-i.i) || (one_on a.before.before.before.before.before.before.before.before.before.before.before.before.before.before.before.before.before.before.before.before.before.before.before.before.before (before a.before.before.before.before.before.before.before.before.before.before.before.before.before.before.before.before.before.before.before.before.before.before.before.before.before) a.loop-i.i).shown)
+    told = a.passes.ensures.fact_3.1 ∙ ap (λ (t : Table). not
+        (live_at a.before.before.before.before.before.before.before.before.before.before.before.before.before.before.before.before.before.before.before.before.before.before.before.before.before a.loop-i.i) || (one_on a.before.before.before.before.before.before.before.before.before.before.before.before.before.before.before.before.before.before.before.before.before.before.before.before.before t a.loop-i.i).shown)
+        a.loop-i.invariant.0
 
-  unmarked-again : a.passes.new.marks ≡ unmarked (length a.args.vars.now)
-  unmarked-again = a.passes.ensures.marks_after ∙ ap (λ (t : Table). unmarked (length t.vars)) a.loop-i.invariant.0
+    unmarked-again : a.passes.new.marks ≡ unmarked (length a.args.vars.now)
+    unmarked-again = a.passes.ensures.marks_after ∙ ap (λ (t : Table). unmarked (length t.vars)) a.loop-i.invariant.0
 
 pub loop-i-init : goal.loop-i-init
 loop-i-init c = (
   refl,
-  searching-start (before c.before.before.before.before.before.before.before.before.before.before.before.before.before.before) c.args.witness.positive c.args.witness.negative (ms c.before.before.before.before.before.before.before.before.before.before.before.before.before.before) c.args.members.now
+  searching-start (before c.before.before.before.before.before.before.before.before.before.before.before.before.before.before)
+      c.args.witness.positive c.args.witness.negative
+      (ms c.before.before.before.before.before.before.before.before.before.before.before.before.before.before) c.args.members.now
       c.args.struck.now c.args.many c.requires.fact_2.3,
   c.requires.fact.1,
   refl,
@@ -93,7 +98,8 @@ passes-requires c =
         c.requires.fact_2.0,
         subst (λ (t : Table). Supports (nodes_of t) c.args.first.now c.args.firstwords.now) (sym c.loop-i.invariant.0) c.requires.fact_2.1,
         c.loop-i.invariant.5 ∙ c.requires.fact_2.2,
-        subst (λ (t : Table). live_at c.before.before.before.before.before.before.before.before.before.before.before.before.before.before.before.before.before.before.before.before.before.before.before.before.before c.loop-i.i ≡ true → (line_reach (size t) (nodes_of t) (one_on c.before.before.before.before.before.before.before.before.before.before.before.before.before.before.before.before.before.before.before.before.before.before.before.before.before t c.loop-i.i)).fits ≡ true) (sym c.loop-i.invariant.0)
+        subst (λ (t : Table). live_at
+            c.before.before.before.before.before.before.before.before.before.before.before.before.before.before.before.before.before.before.before.before.before.before.before.before.before c.loop-i.i ≡ true → (line_reach (size t) (nodes_of t) (one_on c.before.before.before.before.before.before.before.before.before.before.before.before.before.before.before.before.before.before.before.before.before.before.before.before.before t c.loop-i.i)).fits ≡ true) (sym c.loop-i.invariant.0)
             (searching-fits (before c.before.before.before.before.before.before.before.before.before.before.before.before.before.before.before.before.before.before.before.before.before.before.before.before.before) c.args.witness.positive c.args.witness.negative (ms c.before.before.before.before.before.before.before.before.before.before.before.before.before.before.before.before.before.before.before.before.before.before.before.before.before) c.args.members.now
             c.args.struck.now c.args.many c.requires.fact.4 c.requires.fact.5 c.loop-i.i more c.loop-i.invariant.1),
       );
@@ -131,7 +137,8 @@ shape_of-memo-then-not-passes c =
 
 pub shape_of-marks-then-not-passes : goal.shape_of-marks-then-not-passes
 shape_of-marks-then-not-passes c =
-    ap length (unmarked-again c.before.before.before.before.before.before.before.before.before.before.before.before.before.before.before.before.before.before.before.before ∙ sym
+    ap length (unmarked-again
+    c.before.before.before.before.before.before.before.before.before.before.before.before.before.before.before.before.before.before.before.before ∙ sym
     c.requires.fact.1)
 
 pub shape_of-second-then-not-passes : goal.shape_of-second-then-not-passes
@@ -150,10 +157,12 @@ returns-then-not-passes c =
       fact_3 = (
         as_before c.before.before.before.before.before.before.before.before.before.before.before.before.before.before.before.before.before.before.before.before,
         searching-found (before c.before.before.before.before.before.before.before.before.before.before.before.before.before.before.before.before.before.before.before.before.before.before.before.before.before.before.before.before.before.before.before.before.before.before.before.before.before.before.before.before.before.before.before.before.before) c.args.witness.positive c.args.witness.negative (ms c.before.before.before.before.before.before.before.before.before.before.before.before.before.before.before.before.before.before.before.before.before.before.before.before.before.before.before.before.before.before.before.before.before.before.before.before.before.before.before.before.before.before.before.before.before) c.args.members.now
-            c.args.struck.now c.args.many c.requires.fact.4 c.requires.fact.5 c.loop-i.i (more c.before.before.before.before.before.before.before.before.before.before.before.before.before.before.before.before.before.before.before.before) c.loop-i.invariant.1
+            c.args.struck.now c.args.many c.requires.fact.4 c.requires.fact.5 c.loop-i.i
+            (more c.before.before.before.before.before.before.before.before.before.before.before.before.before.before.before.before.before.before.before.before) c.loop-i.invariant.1
             (sym (told c.before.before.before.before.before.before.before.before.before.before.before.before.before.before.before.before.before.before.before.before) ∙ sym (not-not c.passes.result) ∙ ap not c.if-not-passes.true-raw),
       );
-      marks_after = unmarked-again c.before.before.before.before.before.before.before.before.before.before.before.before.before.before.before.before.before.before.before.before;
+      marks_after = unmarked-again
+          c.before.before.before.before.before.before.before.before.before.before.before.before.before.before.before.before.before.before.before.before;
     }
 
 pub overflow_add-i : goal.overflow_add-i
@@ -168,7 +177,8 @@ pub loop-i-preserved : goal.loop-i-preserved
 loop-i-preserved c = (
   as_before c.before.before.before.before.before.before.before.before.before.before.before.before.before.before.before.before.before.before.before.before,
   searching-on (before c.before.before.before.before.before.before.before.before.before.before.before.before.before.before.before.before.before.before.before.before.before.before.before.before.before.before.before.before.before.before.before.before.before.before.before.before.before.before.before.before.before.before.before.before.before) c.args.witness.positive c.args.witness.negative (ms c.before.before.before.before.before.before.before.before.before.before.before.before.before.before.before.before.before.before.before.before.before.before.before.before.before.before.before.before.before.before.before.before.before.before.before.before.before.before.before.before.before.before.before.before.before) c.args.members.now
-      c.args.struck.now c.args.many c.requires.fact.4 c.requires.fact.5 c.loop-i.i (more c.before.before.before.before.before.before.before.before.before.before.before.before.before.before.before.before.before.before.before.before) c.loop-i.invariant.1
+      c.args.struck.now c.args.many c.requires.fact.4 c.requires.fact.5 c.loop-i.i
+      (more c.before.before.before.before.before.before.before.before.before.before.before.before.before.before.before.before.before.before.before.before) c.loop-i.invariant.1
       (sym (told c.before.before.before.before.before.before.before.before.before.before.before.before.before.before.before.before.before.before.before.before) ∙ sym (not-not c.passes.result) ∙ ap not c.if-not-passes.false-raw),
   unmarked-again c.before.before.before.before.before.before.before.before.before.before.before.before.before.before.before.before.before.before.before.before,
   c.passes.auto.memo ∙ c.loop-i.invariant.3,
@@ -215,8 +225,16 @@ shape_of-secondwords c =
 pub returns : goal.returns
 returns c =
     record {
-      fact_3 = absurd (searching-end (before c.before.before.before.before.before.before.before.before.before.before.before.before.before.before.before.before) c.args.witness.positive c.args.witness.negative (ms c.before.before.before.before.before.before.before.before.before.before.before.before.before.before.before.before) c.args.members.now
+      fact_3 = absurd (searching-end
+          (before c.before.before.before.before.before.before.before.before.before.before.before.before.before.before.before.before)
+          c.args.witness.positive c.args.witness.negative
+          (ms c.before.before.before.before.before.before.before.before.before.before.before.before.before.before.before.before)
+          c.args.members.now
           c.args.struck.now c.args.many c.requires.fact.4 c.requires.fact.5 c.loop-i.i c.loop-i.invariant.1 c.loop-i-test.false);
-      marks_after = absurd (searching-end (before c.before.before.before.before.before.before.before.before.before.before.before.before.before.before.before.before) c.args.witness.positive c.args.witness.negative (ms c.before.before.before.before.before.before.before.before.before.before.before.before.before.before.before.before) c.args.members.now
+      marks_after = absurd (searching-end (before
+          c.before.before.before.before.before.before.before.before.before.before.before.before.before.before.before.before)
+          c.args.witness.positive c.args.witness.negative
+          (ms c.before.before.before.before.before.before.before.before.before.before.before.before.before.before.before.before)
+          c.args.members.now
           c.args.struck.now c.args.many c.requires.fact.4 c.requires.fact.5 c.loop-i.i c.loop-i.invariant.1 c.loop-i-test.false);
     }

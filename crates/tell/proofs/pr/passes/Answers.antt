@@ -2,7 +2,6 @@
 use mathlib.Core.Path.{refl, sym, ap, ◌∙◌}
 use mathlib.Core.Bool.{Bool, not, ◌||◌}
 use lib.ListN.{get_or}
-use borrow.Author.Rules.{rules}
 use borrow.Author.Tests.{eq-eqb, ne_eqb}
 use Rattle.meaning.specs.Rules.{Line}
 use Rattle.table.specs.Nodes.{diagram_at}
@@ -37,7 +36,15 @@ module _ (a : lts.After-turn tie.the-claims reads.Pre reads.Post tie.handed_clau
 
 pub returns-then-struck-i-ne0 : goal.returns-then-struck-i-ne0
 returns-then-struck-i-ne0 c =
-    record { fact_3 = (refl, sym (ap (λ (b : Bool). not b || (one c.before.before.before.before.before.before.before.before.before.before.before.before.before.before.before.before).shown) (ne_eqb _ _ c.if-struck-i-ne0.true))); marks_after = c.requires.fact.1 }
+    record {
+      fact_3 = (
+        refl,
+        sym (ap (λ (b : Bool). not b
+            || (one c.before.before.before.before.before.before.before.before.before.before.before.before.before.before.before.before).shown)
+            (ne_eqb _ _ c.if-struck-i-ne0.true)),
+      );
+      marks_after = c.requires.fact.1;
+    }
 
 pub turn-t-requires : goal.turn-t-requires
 turn-t-requires c =
@@ -47,7 +54,8 @@ turn-t-requires c =
         record {
           lengths = c.requires.fact_2.0;
           have = c.requires.fact_2.1;
-          has = every-support (before c.before.before.before.before.before.before.before.before.before.before.before.before.before.before.before.before.before.before.before.before.before.before.before.before.before.before) c.requires.fact.0.good
+          has = every-support (before
+              c.before.before.before.before.before.before.before.before.before.before.before.before.before.before.before.before.before.before.before.before.before.before.before.before.before.before) c.requires.fact.0.good
               (get_or c.args.members.now c.args.i 0) c.requires.fact.6;
         },
         c.requires.fact_2.2,
@@ -109,7 +117,8 @@ returns c =
             ∙ undone (before c.before.before.before.before.before.before.before.before.before.before.before.before.before.before.before.before.before.before.before.before.before.before.before.before.before.before.before.before.before.before.before.before.before.before.before.before.before.before.before.before.before.before.before.before.before.before.before.before.before.before.before.before.before.before.before.before.before.before.before.before.before) c.requires.fact.0.good (table₁ c.before.before.before.before.before.before.before.before.before.before.before.before.before.before.before.before.before.before.before.before.before.before.before.before.before.before.before.before.before.before.before.before.before.before.before)
             (extended-longer (before c.before.before.before.before.before.before.before.before.before.before.before.before.before.before.before.before.before.before.before.before.before.before.before.before.before.before.before.before.before.before.before.before.before.before.before.before.before.before.before.before.before.before.before.before.before.before.before.before.before.before.before.before.before.before.before.before.before.before.before.before.before) (table₁ c.before.before.before.before.before.before.before.before.before.before.before.before.before.before.before.before.before.before.before.before.before.before.before.before.before.before.before.before.before.before.before.before.before.before.before) c.requires.fact.0.good (said c.before.before.before.before.before.before.before.before.before.before.before.before.before.before.before.before.before.before.before.before.before.before.before.before.before.before.before.before.before.before.before.before.before.before.before).extended),
         says-fits (before c.before.before.before.before.before.before.before.before.before.before.before.before.before.before.before.before.before.before.before.before.before.before.before.before.before.before.before.before.before.before.before.before.before.before.before.before.before.before.before.before.before.before.before.before.before.before.before.before.before.before.before.before.before.before.before.before.before.before.before.before.before) (one c.before.before.before.before.before.before.before.before.before.before.before.before.before.before.before.before.before.before.before.before.before.before.before.before.before.before.before.before.before.before.before.before.before.before.before.before.before.before.before.before.before.before.before.before.before.before.before.before.before.before.before.before.before.before.before.before.before.before.before.before.before) 64 c.turn-t.result (table₁ c.before.before.before.before.before.before.before.before.before.before.before.before.before.before.before.before.before.before.before.before.before.before.before.before.before.before.before.before.before.before.before.before.before.before.before) (said c.before.before.before.before.before.before.before.before.before.before.before.before.before.before.before.before.before.before.before.before.before.before.before.before.before.before.before.before.before.before.before.before.before.before.before) (c.requires.fact_2.3 live)
-            ∙ sym (ap (λ (b : Bool). not b || (one c.before.before.before.before.before.before.before.before.before.before.before.before.before.before.before.before.before.before.before.before.before.before.before.before.before.before.before.before.before.before.before.before.before.before.before.before.before.before.before.before.before.before.before.before.before.before.before.before.before.before.before.before.before.before.before.before.before.before.before.before.before).shown) live),
+            ∙ sym (ap (λ (b : Bool). not b || (one
+            c.before.before.before.before.before.before.before.before.before.before.before.before.before.before.before.before.before.before.before.before.before.before.before.before.before.before.before.before.before.before.before.before.before.before.before.before.before.before.before.before.before.before.before.before.before.before.before.before.before.before.before.before.before.before.before.before.before.before.before.before.before).shown) live),
       );
       marks_after = c.turn-t.ensures.marks_after;
     }

@@ -5,7 +5,6 @@ use Prim.Native.Nat.{ℕ, ◌≤◌}
 use native.Mathlib.Omega.{arith}
 use lib.ListN.{length, take, replicate, length-replicate}
 use lib.Seq.{length-take-le}
-use borrow.Author.Rules.{rules}
 use Rattle.meaning.specs.Diagram.{Diagram}
 use Rattle.meaning.specs.Rules.{pr}
 use Rattle.meaning.specs.Words.{in_word}
@@ -71,13 +70,19 @@ module _ (c : lts.After-live_members tie.the-claims reads.Pre reads.Post tie.han
   scratch-length : length (take m c.args.scratch.now) ≡ m
   scratch-length = length-take-le m c.args.scratch.now (omega (arith, few, c.requires.fact.4))
 
-  gathered-ready : Negatable (before c.before.before.before.before.before.before.before.before.before.before.before.before.before) gathered c.args.memo.now c.args.g.0
-  gathered-ready = subst (λ (ks : List ℕ). Negatable (before c.before.before.before.before.before.before.before.before.before.before.before.before.before) ks c.args.memo.now c.args.g.0) (sym gathered-is)
+  gathered-ready : Negatable (before c.before.before.before.before.before.before.before.before.before.before.before.before.before) gathered
+      c.args.memo.now c.args.g.0
+  gathered-ready = subst (λ (ks : List ℕ). Negatable
+      (before c.before.before.before.before.before.before.before.before.before.before.before.before.before) ks c.args.memo.now c.args.g.0)
+      (sym gathered-is)
       (ready c.before.before.before.before.before.before.before.before.before.before.before.before.before)
 
 pub live_members-m-requires : goal.live_members-m-requires
-live_members-m-requires c =
-    (omega (arith, c.requires.fact.2, c.requires.fact.3), omega (arith, c.requires.fact.2, c.requires.fact.3, c.requires.fact.5), omega (arith, c.requires.fact.2))
+live_members-m-requires c = (
+  omega (arith, c.requires.fact.2, c.requires.fact.3),
+  omega (arith, c.requires.fact.2, c.requires.fact.3, c.requires.fact.5),
+  omega (arith, c.requires.fact.2),
+)
 
 pub slice_bounds-live-end : goal.slice_bounds-live-end
 slice_bounds-live-end c =
@@ -97,7 +102,8 @@ slice_bounds-pr_over-end-2 c =
 
 pub slice_bounds-pr_over-end-3 : goal.slice_bounds-pr_over-end-3
 slice_bounds-pr_over-end-3 c =
-    let a = c.before.before.before.before.before.before.before.before.before.before.before in omega (arith, few c.before.before.before.before.before.before.before.before.before.before.before, a.requires.fact.4)
+    let a = c.before.before.before.before.before.before.before.before.before.before.before in
+    omega (arith, few c.before.before.before.before.before.before.before.before.before.before.before, a.requires.fact.4)
 
 pub slice_bounds-pr_over-end-4 : goal.slice_bounds-pr_over-end-4
 slice_bounds-pr_over-end-4 c =
@@ -130,13 +136,22 @@ slice_bounds-pr_over-end-7 c =
 pub pr_over-requires : goal.pr_over-requires
 pr_over-requires c =
     let B = before c.before.before.before.before.before.before.before.before.before.before.before.before.before.before.before.before.before.before.before.before.before.before.before.before.before.before.before.before.before in
-    let own = own-length c.before.before.before.before.before.before.before.before.before.before.before.before.before.before.before.before ∙ sym (gathered-length c.before.before.before.before.before.before.before.before.before.before.before.before.before.before.before.before) in record {
+    let own = own-length c.before.before.before.before.before.before.before.before.before.before.before.before.before.before.before.before
+    ∙ sym (gathered-length
+    c.before.before.before.before.before.before.before.before.before.before.before.before.before.before.before.before) in record {
       fact = (
         gathered-ready c.before.before.before.before.before.before.before.before.before.before.before.before.before.before.before.before,
         c.requires.fact.1,
-        scratch-length c.before.before.before.before.before.before.before.before.before.before.before.before.before.before.before.before ∙ sym (gathered-length c.before.before.before.before.before.before.before.before.before.before.before.before.before.before.before.before),
+        scratch-length c.before.before.before.before.before.before.before.before.before.before.before.before.before.before.before.before
+            ∙ sym (gathered-length
+            c.before.before.before.before.before.before.before.before.before.before.before.before.before.before.before.before),
         own,
-        omega (arith, gathered-length c.before.before.before.before.before.before.before.before.before.before.before.before.before.before.before.before, few c.before.before.before.before.before.before.before.before.before.before.before.before.before.before.before.before),
+        omega (
+          arith,
+          gathered-length
+              c.before.before.before.before.before.before.before.before.before.before.before.before.before.before.before.before,
+          few c.before.before.before.before.before.before.before.before.before.before.before.before.before.before.before.before,
+        ),
         omega (arith, c.requires.fact.2, c.requires.fact.3),
         omega (arith, c.requires.fact.2, c.requires.fact.3, c.requires.fact.5),
         c.requires.fact.0.ready.inside,
@@ -144,12 +159,17 @@ pr_over-requires c =
         gathered-is c.before.before.before.before.before.before.before.before.before.before.before.before.before.before.before.before,
       );
       fact_2 = (
-        ones-length c.before.before.before.before.before.before.before.before.before.before.before.before.before.before.before.before ∙ sym (gathered-length c.before.before.before.before.before.before.before.before.before.before.before.before.before.before.before.before),
-        ones-support B c.requires.fact.0.ready.good (gathered c.before.before.before.before.before.before.before.before.before.before.before.before.before.before.before.before) (gathered-ready c.before.before.before.before.before.before.before.before.before.before.before.before.before.before.before.before).ready.inside (m c.before.before.before.before.before.before.before.before.before.before.before.before.before.before.before.before) (gathered-length c.before.before.before.before.before.before.before.before.before.before.before.before.before.before.before.before) (few c.before.before.before.before.before.before.before.before.before.before.before.before.before.before.before.before),
+        ones-length c.before.before.before.before.before.before.before.before.before.before.before.before.before.before.before.before
+            ∙ sym (gathered-length
+            c.before.before.before.before.before.before.before.before.before.before.before.before.before.before.before.before),
+        ones-support B c.requires.fact.0.ready.good
+            (gathered c.before.before.before.before.before.before.before.before.before.before.before.before.before.before.before.before)
+            (gathered-ready c.before.before.before.before.before.before.before.before.before.before.before.before.before.before.before.before).ready.inside (m c.before.before.before.before.before.before.before.before.before.before.before.before.before.before.before.before) (gathered-length c.before.before.before.before.before.before.before.before.before.before.before.before.before.before.before.before) (few c.before.before.before.before.before.before.before.before.before.before.before.before.before.before.before.before),
         own,
         own,
         subst (λ (ks : List ℕ). Unshown B (pr 64 (in_word c.args.witness.positive) (in_word c.args.witness.negative)
-            (diagrams_of (nodes_of B) ks) (root c.before.before.before.before.before.before.before.before.before.before.before.before.before.before.before.before.before.before.before.before.before.before.before.before.before.before.before.before.before))) (sym (gathered-is c.before.before.before.before.before.before.before.before.before.before.before.before.before.before.before.before)) c.requires.fact.6,
+            (diagrams_of (nodes_of B) ks) (root
+            c.before.before.before.before.before.before.before.before.before.before.before.before.before.before.before.before.before.before.before.before.before.before.before.before.before.before.before.before.before))) (sym (gathered-is c.before.before.before.before.before.before.before.before.before.before.before.before.before.before.before.before)) c.requires.fact.6,
         c.requires.in_bounds.0,
         c.requires.in_bounds.1,
       );

@@ -24,7 +24,8 @@ module _ (a : lts.After-apply tie.the-claims reads.Pre reads.Post tie.handed_cla
   made = outcome_of a.apply-h.new.vars a.apply-h.new.lows a.apply-h.new.highs a.apply-h.new.heads a.apply-h.new.links
       a.apply-h.result
 
-  made-is : made ≡ applied (before a.before.before.before.before.before.before.before.before.before.before.before.before.before.before.before.before.before.before.before.before.before.before) (Literals a.args.witness.positive a.args.witness.negative) a.args.f.0 1
+  made-is : made ≡ applied (before
+      a.before.before.before.before.before.before.before.before.before.before.before.before.before.before.before.before.before.before.before.before.before.before) (Literals a.args.witness.positive a.args.witness.negative) a.args.f.0 1
   made-is = a.apply-h.ensures.result_after
 
   memo-length : length a.apply-h.new.memo ≡ length a.args.memo.now
@@ -43,25 +44,32 @@ pub apply-h-requires : goal.apply-h-requires
 apply-h-requires c =
     literals-ready (before c.before.before.before.before.before.before.before.before.before.before.before.before.before.before.before.before.before.before.before.before.before.before) c.args.first.now c.args.memo.now c.requires.fact.0 c.args.f.0 c.args.witness.positive
     c.args.witness.negative c.requires.fact.3 c.clear_memo.new.memo
-    (empty_right c.clear_memo.ensures (Literals c.args.witness.positive c.args.witness.negative) (before c.before.before.before.before.before.before.before.before.before.before.before.before.before.before.before.before.before.before.before.before.before.before))
+    (empty_right c.clear_memo.ensures (Literals c.args.witness.positive c.args.witness.negative)
+    (before c.before.before.before.before.before.before.before.before.before.before.before.before.before.before.before.before.before.before.before.before.before.before))
 
 pub trace_by-t-requires : goal.trace_by-t-requires
 trace_by-t-requires c =
-    let other = turn-other (before c.before.before.before.before.before.before.before.before.before.before.before.before.before.before.before.before.before.before.before.before.before.before.before.before.before.before.before.before.before.before.before.before.before.before.before.before.before.before.before.before.before.before.before.before.before) c.args.first.now c.args.memo.now c.requires.fact.0 c.args.f.0 c.args.witness.positive
+    let other = turn-other (before
+    c.before.before.before.before.before.before.before.before.before.before.before.before.before.before.before.before.before.before.before.before.before.before.before.before.before.before.before.before.before.before.before.before.before.before.before.before.before.before.before.before.before.before.before.before.before) c.args.first.now c.args.memo.now c.requires.fact.0 c.args.f.0 c.args.witness.positive
     c.args.witness.negative c.requires.fact.3 c.requires.fact.7 in
-    let room = turn-room (before c.before.before.before.before.before.before.before.before.before.before.before.before.before.before.before.before.before.before.before.before.before.before.before.before.before.before.before.before.before.before.before.before.before.before.before.before.before.before.before.before.before.before.before.before.before) c.args.first.now c.args.memo.now c.requires.fact.0 c.args.f.0 c.args.witness.positive
-    c.args.witness.negative c.requires.fact.3 c.requires.fact.7 (made c.before.before.before.before.before.before.before.before.before.before.before.before.before.before.before.before.before.before.before.before.before.before.before) (made-is c.before.before.before.before.before.before.before.before.before.before.before.before.before.before.before.before.before.before.before.before.before.before.before) in record {
+    let room = turn-room (before
+    c.before.before.before.before.before.before.before.before.before.before.before.before.before.before.before.before.before.before.before.before.before.before.before.before.before.before.before.before.before.before.before.before.before.before.before.before.before.before.before.before.before.before.before.before.before) c.args.first.now c.args.memo.now c.requires.fact.0 c.args.f.0 c.args.witness.positive
+    c.args.witness.negative c.requires.fact.3 c.requires.fact.7
+    (made c.before.before.before.before.before.before.before.before.before.before.before.before.before.before.before.before.before.before.before.before.before.before.before) (made-is c.before.before.before.before.before.before.before.before.before.before.before.before.before.before.before.before.before.before.before.before.before.before.before) in record {
       fact = (
         turn-ready (before c.before.before.before.before.before.before.before.before.before.before.before.before.before.before.before.before.before.before.before.before.before.before.before.before.before.before.before.before.before.before.before.before.before.before.before.before.before.before.before.before.before.before.before.before.before) c.args.first.now c.args.memo.now c.requires.fact.0 c.args.f.0 c.args.witness.positive
-            c.args.witness.negative c.requires.fact.3 other (made c.before.before.before.before.before.before.before.before.before.before.before.before.before.before.before.before.before.before.before.before.before.before.before) (made-is c.before.before.before.before.before.before.before.before.before.before.before.before.before.before.before.before.before.before.before.before.before.before.before) room c.apply-h.new.memo (memo-length c.before.before.before.before.before.before.before.before.before.before.before.before.before.before.before.before.before.before.before.before.before.before.before),
+            c.args.witness.negative c.requires.fact.3 other
+            (made c.before.before.before.before.before.before.before.before.before.before.before.before.before.before.before.before.before.before.before.before.before.before.before) (made-is c.before.before.before.before.before.before.before.before.before.before.before.before.before.before.before.before.before.before.before.before.before.before.before) room c.apply-h.new.memo (memo-length c.before.before.before.before.before.before.before.before.before.before.before.before.before.before.before.before.before.before.before.before.before.before.before),
         c.requires.fact.1,
         c.requires.fact.2,
         turn-calm (before c.before.before.before.before.before.before.before.before.before.before.before.before.before.before.before.before.before.before.before.before.before.before.before.before.before.before.before.before.before.before.before.before.before.before.before.before.before.before.before.before.before.before.before.before.before) c.args.first.now c.args.memo.now c.requires.fact.0 c.args.f.0 c.args.witness.positive
-            c.args.witness.negative c.requires.fact.3 c.requires.fact.7 (made c.before.before.before.before.before.before.before.before.before.before.before.before.before.before.before.before.before.before.before.before.before.before.before) (made-is c.before.before.before.before.before.before.before.before.before.before.before.before.before.before.before.before.before.before.before.before.before.before.before),
+            c.args.witness.negative c.requires.fact.3 c.requires.fact.7
+            (made c.before.before.before.before.before.before.before.before.before.before.before.before.before.before.before.before.before.before.before.before.before.before.before) (made-is c.before.before.before.before.before.before.before.before.before.before.before.before.before.before.before.before.before.before.before.before.before.before.before),
       );
       fact_2 = (
         turn-worded (before c.before.before.before.before.before.before.before.before.before.before.before.before.before.before.before.before.before.before.before.before.before.before.before.before.before.before.before.before.before.before.before.before.before.before.before.before.before.before.before.before.before.before.before.before.before) c.args.first.now c.args.memo.now c.requires.fact.0 c.args.f.0 c.args.witness.positive
-            c.args.witness.negative c.requires.fact.3 other (made c.before.before.before.before.before.before.before.before.before.before.before.before.before.before.before.before.before.before.before.before.before.before.before) (made-is c.before.before.before.before.before.before.before.before.before.before.before.before.before.before.before.before.before.before.before.before.before.before.before) room c.args.firstwords.now 18446744073709551615
+            c.args.witness.negative c.requires.fact.3 other
+            (made c.before.before.before.before.before.before.before.before.before.before.before.before.before.before.before.before.before.before.before.before.before.before.before) (made-is c.before.before.before.before.before.before.before.before.before.before.before.before.before.before.before.before.before.before.before.before.before.before.before) room c.args.firstwords.now 18446744073709551615
             (record {
               lengths = c.requires.fact.4;
               have = c.requires.fact.5;
@@ -75,8 +83,10 @@ trace_by-t-requires c =
 
 pub drop_to-requires : goal.drop_to-requires
 drop_to-requires c =
-    let E = turn_more (before c.before.before.before.before.before.before.before.before.before.before.before.before.before.before.before.before.before.before.before.before.before.before.before.before.before.before.before.before.before.before.before.before.before.before.before.before.before.before.before.before.before.before.before.before.before.before.before.before.before.before.before.before.before.before.before.before.before.before.before.before.before.before.before.before.before.before.before.before.before) c.args.first.now c.args.memo.now c.requires.fact.0 c.args.f.0 c.args.witness.positive
-    c.args.witness.negative c.requires.fact.3 c.requires.fact.7 (made c.before.before.before.before.before.before.before.before.before.before.before.before.before.before.before.before.before.before.before.before.before.before.before.before.before.before.before.before.before.before.before.before.before.before.before.before.before.before.before.before.before.before.before.before.before.before.before) (made-is c.before.before.before.before.before.before.before.before.before.before.before.before.before.before.before.before.before.before.before.before.before.before.before.before.before.before.before.before.before.before.before.before.before.before.before.before.before.before.before.before.before.before.before.before.before.before.before) c.trace_by-t.result (table₁ c.before.before.before.before.before.before.before.before.before.before.before.before.before.before.before.before.before.before.before.before.before.before.before.before)
+    let E = turn_more (before
+    c.before.before.before.before.before.before.before.before.before.before.before.before.before.before.before.before.before.before.before.before.before.before.before.before.before.before.before.before.before.before.before.before.before.before.before.before.before.before.before.before.before.before.before.before.before.before.before.before.before.before.before.before.before.before.before.before.before.before.before.before.before.before.before.before.before.before.before.before.before) c.args.first.now c.args.memo.now c.requires.fact.0 c.args.f.0 c.args.witness.positive
+    c.args.witness.negative c.requires.fact.3 c.requires.fact.7
+    (made c.before.before.before.before.before.before.before.before.before.before.before.before.before.before.before.before.before.before.before.before.before.before.before.before.before.before.before.before.before.before.before.before.before.before.before.before.before.before.before.before.before.before.before.before.before.before.before) (made-is c.before.before.before.before.before.before.before.before.before.before.before.before.before.before.before.before.before.before.before.before.before.before.before.before.before.before.before.before.before.before.before.before.before.before.before.before.before.before.before.before.before.before.before.before.before.before.before) c.trace_by-t.result (table₁ c.before.before.before.before.before.before.before.before.before.before.before.before.before.before.before.before.before.before.before.before.before.before.before.before)
     c.trace_by-t.new.fixed c.trace_by-t.ensures in
     (E.good, c.requires.fact.0.good.least, E.more)
 
@@ -110,7 +120,8 @@ shape_of-links c =
 
 pub shape_of-memo : goal.shape_of-memo
 shape_of-memo c =
-    c.trace_by-t.auto.memo ∙ memo-length c.before.before.before.before.before.before.before.before.before.before.before.before.before.before.before.before.before.before.before.before.before.before.before.before.before.before.before.before.before.before.before.before.before.before.before.before.before.before.before.before.before.before.before.before.before.before.before.before.before.before.before.before.before.before.before.before.before.before
+    c.trace_by-t.auto.memo ∙ memo-length
+    c.before.before.before.before.before.before.before.before.before.before.before.before.before.before.before.before.before.before.before.before.before.before.before.before.before.before.before.before.before.before.before.before.before.before.before.before.before.before.before.before.before.before.before.before.before.before.before.before.before.before.before.before.before.before.before.before.before.before
 
 pub shape_of-second : goal.shape_of-second
 shape_of-second c =
@@ -127,10 +138,12 @@ shape_of-fixed c =
 pub returns : goal.returns
 returns c = (
   turn-undone (before c.before.before.before.before.before.before.before.before.before.before.before.before.before.before.before.before.before.before.before.before.before.before.before.before.before.before.before.before.before.before.before.before.before.before.before.before.before.before.before.before.before.before.before.before.before.before.before.before.before.before.before.before.before.before.before.before.before.before.before.before.before.before.before.before.before.before.before.before.before.before.before.before.before.before.before.before.before.before.before.before) c.args.first.now c.args.memo.now c.requires.fact.0 c.args.f.0 c.args.witness.positive
-      c.args.witness.negative c.requires.fact.3 c.requires.fact.7 (made c.before.before.before.before.before.before.before.before.before.before.before.before.before.before.before.before.before.before.before.before.before.before.before.before.before.before.before.before.before.before.before.before.before.before.before.before.before.before.before.before.before.before.before.before.before.before.before.before.before.before.before.before.before.before.before.before.before.before) (made-is c.before.before.before.before.before.before.before.before.before.before.before.before.before.before.before.before.before.before.before.before.before.before.before.before.before.before.before.before.before.before.before.before.before.before.before.before.before.before.before.before.before.before.before.before.before.before.before.before.before.before.before.before.before.before.before.before.before.before) c.trace_by-t.result (table₁ c.before.before.before.before.before.before.before.before.before.before.before.before.before.before.before.before.before.before.before.before.before.before.before.before.before.before.before.before.before.before.before.before.before.before.before)
+      c.args.witness.negative c.requires.fact.3 c.requires.fact.7
+      (made c.before.before.before.before.before.before.before.before.before.before.before.before.before.before.before.before.before.before.before.before.before.before.before.before.before.before.before.before.before.before.before.before.before.before.before.before.before.before.before.before.before.before.before.before.before.before.before.before.before.before.before.before.before.before.before.before.before.before) (made-is c.before.before.before.before.before.before.before.before.before.before.before.before.before.before.before.before.before.before.before.before.before.before.before.before.before.before.before.before.before.before.before.before.before.before.before.before.before.before.before.before.before.before.before.before.before.before.before.before.before.before.before.before.before.before.before.before.before.before) c.trace_by-t.result (table₁ c.before.before.before.before.before.before.before.before.before.before.before.before.before.before.before.before.before.before.before.before.before.before.before.before.before.before.before.before.before.before.before.before.before.before.before)
       c.trace_by-t.new.fixed c.trace_by-t.ensures _
       c.drop_to.ensures,
   turn-fixed (before c.before.before.before.before.before.before.before.before.before.before.before.before.before.before.before.before.before.before.before.before.before.before.before.before.before.before.before.before.before.before.before.before.before.before.before.before.before.before.before.before.before.before.before.before.before.before.before.before.before.before.before.before.before.before.before.before.before.before.before.before.before.before.before.before.before.before.before.before.before.before.before.before.before.before.before.before.before.before.before.before) c.args.first.now c.args.memo.now c.requires.fact.0 c.args.f.0 c.args.witness.positive
-      c.args.witness.negative c.requires.fact.3 c.requires.fact.7 (made c.before.before.before.before.before.before.before.before.before.before.before.before.before.before.before.before.before.before.before.before.before.before.before.before.before.before.before.before.before.before.before.before.before.before.before.before.before.before.before.before.before.before.before.before.before.before.before.before.before.before.before.before.before.before.before.before.before.before) (made-is c.before.before.before.before.before.before.before.before.before.before.before.before.before.before.before.before.before.before.before.before.before.before.before.before.before.before.before.before.before.before.before.before.before.before.before.before.before.before.before.before.before.before.before.before.before.before.before.before.before.before.before.before.before.before.before.before.before.before) c.trace_by-t.result (table₁ c.before.before.before.before.before.before.before.before.before.before.before.before.before.before.before.before.before.before.before.before.before.before.before.before.before.before.before.before.before.before.before.before.before.before.before)
+      c.args.witness.negative c.requires.fact.3 c.requires.fact.7
+      (made c.before.before.before.before.before.before.before.before.before.before.before.before.before.before.before.before.before.before.before.before.before.before.before.before.before.before.before.before.before.before.before.before.before.before.before.before.before.before.before.before.before.before.before.before.before.before.before.before.before.before.before.before.before.before.before.before.before.before) (made-is c.before.before.before.before.before.before.before.before.before.before.before.before.before.before.before.before.before.before.before.before.before.before.before.before.before.before.before.before.before.before.before.before.before.before.before.before.before.before.before.before.before.before.before.before.before.before.before.before.before.before.before.before.before.before.before.before.before.before) c.trace_by-t.result (table₁ c.before.before.before.before.before.before.before.before.before.before.before.before.before.before.before.before.before.before.before.before.before.before.before.before.before.before.before.before.before.before.before.before.before.before.before)
       c.trace_by-t.new.fixed c.trace_by-t.ensures,
 )

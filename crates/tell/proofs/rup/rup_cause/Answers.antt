@@ -5,7 +5,6 @@ use Prim.Native.Nat.{ℕ, ◌≤◌}
 use native.Mathlib.Omega.{arith}
 use lib.ListN.{length, take, replicate, length-replicate}
 use lib.Seq.{length-take-le}
-use borrow.Author.Rules.{rules}
 use Rattle.meaning.specs.Diagram.{Diagram}
 use Rattle.meaning.specs.Rules.{rup}
 use Rattle.table.specs.Nodes.{diagram_at}
@@ -68,18 +67,24 @@ module _ (c : lts.After-live_members tie.the-claims reads.Pre reads.Post tie.han
 
 module _ (c : lts.After-rup_traced tie.the-claims reads.Pre reads.Post tie.handed_clauses) where
   abbrev table₁ : Table
-  table₁ = table_of c.rup_traced-t.new.vars c.rup_traced-t.new.lows c.rup_traced-t.new.highs c.rup_traced-t.new.heads c.rup_traced-t.new.links
+  table₁ = table_of c.rup_traced-t.new.vars c.rup_traced-t.new.lows c.rup_traced-t.new.highs c.rup_traced-t.new.heads
+      c.rup_traced-t.new.links
       c.rup_traced-t.result.count
 
-  traced : LineTraced (before c.before.before.before.before.before.before.before.before.before.before.before.before.before.before.before.before.before.before.before.before.before.before.before.before.before) (diagrams_of (nodes_of (before c.before.before.before.before.before.before.before.before.before.before.before.before.before.before.before.before.before.before.before.before.before.before.before.before.before)) (live c.before.before.before.before.before.before.before.before.before.before.before.before.before.before.before.before.before.before.before.before.before.before.before.before.before)) (root c.before.before.before.before.before.before.before.before.before.before.before.before.before.before.before.before.before.before.before.before.before.before.before.before.before) c.rup_traced-t.result table₁
+  traced : LineTraced (before
+      c.before.before.before.before.before.before.before.before.before.before.before.before.before.before.before.before.before.before.before.before.before.before.before.before.before) (diagrams_of (nodes_of (before c.before.before.before.before.before.before.before.before.before.before.before.before.before.before.before.before.before.before.before.before.before.before.before.before.before)) (live c.before.before.before.before.before.before.before.before.before.before.before.before.before.before.before.before.before.before.before.before.before.before.before.before.before)) (root c.before.before.before.before.before.before.before.before.before.before.before.before.before.before.before.before.before.before.before.before.before.before.before.before.before) c.rup_traced-t.result table₁
       c.rup_traced-t.new.fixed
-  traced = subst (λ (ms : List ℕ). LineTraced (before c.before.before.before.before.before.before.before.before.before.before.before.before.before.before.before.before.before.before.before.before.before.before.before.before.before) (diagrams_of (nodes_of (before c.before.before.before.before.before.before.before.before.before.before.before.before.before.before.before.before.before.before.before.before.before.before.before.before.before)) ms) (root c.before.before.before.before.before.before.before.before.before.before.before.before.before.before.before.before.before.before.before.before.before.before.before.before.before) c.rup_traced-t.result
+  traced = subst (λ (ms : List ℕ). LineTraced (before
+      c.before.before.before.before.before.before.before.before.before.before.before.before.before.before.before.before.before.before.before.before.before.before.before.before.before) (diagrams_of (nodes_of (before c.before.before.before.before.before.before.before.before.before.before.before.before.before.before.before.before.before.before.before.before.before.before.before.before.before)) ms) (root c.before.before.before.before.before.before.before.before.before.before.before.before.before.before.before.before.before.before.before.before.before.before.before.before.before) c.rup_traced-t.result
       table₁ c.rup_traced-t.new.fixed)
       (gathered-is c.before.before.before.before.before.before.before.before.before.before.before.before.before) c.rup_traced-t.ensures
 
 pub live_members-m-requires : goal.live_members-m-requires
-live_members-m-requires c =
-    (omega (arith, c.requires.fact.1, c.requires.fact.2), omega (arith, c.requires.fact.1, c.requires.fact.2, c.requires.fact.4), omega (arith, c.requires.fact.1))
+live_members-m-requires c = (
+  omega (arith, c.requires.fact.1, c.requires.fact.2),
+  omega (arith, c.requires.fact.1, c.requires.fact.2, c.requires.fact.4),
+  omega (arith, c.requires.fact.1),
+)
 
 pub slice_bounds-live-end : goal.slice_bounds-live-end
 slice_bounds-live-end c =
@@ -99,7 +104,8 @@ slice_bounds-rup_traced-end-2 c =
 
 pub slice_bounds-rup_traced-end-3 : goal.slice_bounds-rup_traced-end-3
 slice_bounds-rup_traced-end-3 c =
-    let a = c.before.before.before.before.before.before.before.before.before.before in omega (arith, few c.before.before.before.before.before.before.before.before.before.before, a.requires.fact.3)
+    let a = c.before.before.before.before.before.before.before.before.before.before in
+    omega (arith, few c.before.before.before.before.before.before.before.before.before.before, a.requires.fact.3)
 
 pub slice_bounds-rup_traced-end-4 : goal.slice_bounds-rup_traced-end-4
 slice_bounds-rup_traced-end-4 c =
@@ -117,13 +123,28 @@ pub rup_traced-t-requires : goal.rup_traced-t-requires
 rup_traced-t-requires c =
     let B = before c.before.before.before.before.before.before.before.before.before.before.before.before.before.before.before.before.before.before.before.before.before.before.before.before.before in record {
       fact = (
-        subst (λ (ms : List ℕ). Negatable B ms c.args.memo.now c.args.g.0) (sym (gathered-is c.before.before.before.before.before.before.before.before.before.before.before.before.before)) (ready c.before.before.before.before.before.before.before.before.before.before.before.before.before.before.before.before.before.before.before.before.before.before.before.before.before),
-        scratch-length c.before.before.before.before.before.before.before.before.before.before.before.before.before ∙ sym (gathered-length c.before.before.before.before.before.before.before.before.before.before.before.before.before),
-        omega (arith, gathered-length c.before.before.before.before.before.before.before.before.before.before.before.before.before, few c.before.before.before.before.before.before.before.before.before.before.before.before.before),
-        rup-calm B (diagrams_of (nodes_of B) (gathered c.before.before.before.before.before.before.before.before.before.before.before.before.before)) (root c.before.before.before.before.before.before.before.before.before.before.before.before.before.before.before.before.before.before.before.before.before.before.before.before.before)
-            (subst (λ (ms : List ℕ). Unshown B (rup 64 (diagrams_of (nodes_of B) ms) (root c.before.before.before.before.before.before.before.before.before.before.before.before.before.before.before.before.before.before.before.before.before.before.before.before.before))) (sym (gathered-is c.before.before.before.before.before.before.before.before.before.before.before.before.before)) c.requires.fact.5),
+        subst (λ (ms : List ℕ). Negatable B ms c.args.memo.now c.args.g.0)
+            (sym (gathered-is c.before.before.before.before.before.before.before.before.before.before.before.before.before))
+            (ready c.before.before.before.before.before.before.before.before.before.before.before.before.before.before.before.before.before.before.before.before.before.before.before.before.before),
+        scratch-length c.before.before.before.before.before.before.before.before.before.before.before.before.before
+            ∙ sym (gathered-length c.before.before.before.before.before.before.before.before.before.before.before.before.before),
+        omega (
+          arith,
+          gathered-length c.before.before.before.before.before.before.before.before.before.before.before.before.before,
+          few c.before.before.before.before.before.before.before.before.before.before.before.before.before,
+        ),
+        rup-calm B (diagrams_of (nodes_of B) (gathered
+            c.before.before.before.before.before.before.before.before.before.before.before.before.before))
+            (root c.before.before.before.before.before.before.before.before.before.before.before.before.before.before.before.before.before.before.before.before.before.before.before.before.before)
+            (subst (λ (ms : List ℕ). Unshown B (rup 64 (diagrams_of (nodes_of B) ms)
+            (root c.before.before.before.before.before.before.before.before.before.before.before.before.before.before.before.before.before.before.before.before.before.before.before.before.before))) (sym (gathered-is c.before.before.before.before.before.before.before.before.before.before.before.before.before)) c.requires.fact.5),
       );
-      memberwords_len = (own-length c.before.before.before.before.before.before.before.before.before.before.before.before.before ∙ sym (gathered-length c.before.before.before.before.before.before.before.before.before.before.before.before.before), own-length c.before.before.before.before.before.before.before.before.before.before.before.before.before ∙ sym (gathered-length c.before.before.before.before.before.before.before.before.before.before.before.before.before));
+      memberwords_len = (
+        own-length c.before.before.before.before.before.before.before.before.before.before.before.before.before
+            ∙ sym (gathered-length c.before.before.before.before.before.before.before.before.before.before.before.before.before),
+        own-length c.before.before.before.before.before.before.before.before.before.before.before.before.before
+            ∙ sym (gathered-length c.before.before.before.before.before.before.before.before.before.before.before.before.before),
+      );
       in_bounds = c.requires.in_bounds;
     }
 
@@ -169,10 +190,13 @@ shape_of-fixed c =
 pub returns : goal.returns
 returns c =
     let B = before c.before.before.before.before.before.before.before.before.before.before.before.before.before.before.before.before.before.before.before.before.before.before.before.before.before.before.before.before.before.before.before.before.before.before.before.before.before.before.before.before.before.before.before.before.before.before.before.before.before.before.before.before.before.before.before.before.before.before.before.before in
-    let ms = diagrams_of (nodes_of B) (live c.before.before.before.before.before.before.before.before.before.before.before.before.before.before.before.before.before.before.before.before.before.before.before.before.before.before.before.before.before.before.before.before.before.before.before.before.before.before.before.before.before.before.before.before.before.before.before.before.before.before.before.before.before.before.before.before.before.before.before.before) in (
+    let ms = diagrams_of (nodes_of B)
+    (live c.before.before.before.before.before.before.before.before.before.before.before.before.before.before.before.before.before.before.before.before.before.before.before.before.before.before.before.before.before.before.before.before.before.before.before.before.before.before.before.before.before.before.before.before.before.before.before.before.before.before.before.before.before.before.before.before.before.before.before.before) in (
       rup-undone B ms (root c.before.before.before.before.before.before.before.before.before.before.before.before.before.before.before.before.before.before.before.before.before.before.before.before.before.before.before.before.before.before.before.before.before.before.before.before.before.before.before.before.before.before.before.before.before.before.before.before.before.before.before.before.before.before.before.before.before.before.before.before) c.requires.fact.0.ready.good c.rup_traced-t.result (table₁ c.before.before.before.before.before.before.before.before.before.before.before.before.before.before.before.before.before.before.before.before.before.before.before.before.before.before.before.before.before.before.before.before.before.before.before)
-          c.rup_traced-t.new.fixed (traced c.before.before.before.before.before.before.before.before.before.before.before.before.before.before.before.before.before.before.before.before.before.before.before.before.before.before.before.before.before.before.before.before.before.before.before) _
+          c.rup_traced-t.new.fixed (traced
+          c.before.before.before.before.before.before.before.before.before.before.before.before.before.before.before.before.before.before.before.before.before.before.before.before.before.before.before.before.before.before.before.before.before.before.before) _
           c.drop_to.ensures,
       rup-fixed B ms (root c.before.before.before.before.before.before.before.before.before.before.before.before.before.before.before.before.before.before.before.before.before.before.before.before.before.before.before.before.before.before.before.before.before.before.before.before.before.before.before.before.before.before.before.before.before.before.before.before.before.before.before.before.before.before.before.before.before.before.before.before) c.requires.fact.0.ready.good c.rup_traced-t.result (table₁ c.before.before.before.before.before.before.before.before.before.before.before.before.before.before.before.before.before.before.before.before.before.before.before.before.before.before.before.before.before.before.before.before.before.before.before)
-          c.rup_traced-t.new.fixed (traced c.before.before.before.before.before.before.before.before.before.before.before.before.before.before.before.before.before.before.before.before.before.before.before.before.before.before.before.before.before.before.before.before.before.before.before) c.requires.fact.5,
+          c.rup_traced-t.new.fixed (traced
+          c.before.before.before.before.before.before.before.before.before.before.before.before.before.before.before.before.before.before.before.before.before.before.before.before.before.before.before.before.before.before.before.before.before.before.before) c.requires.fact.5,
     )

@@ -35,14 +35,20 @@ module _ (a : lts.After-support_from tie.the-claims reads.Pre reads.Post tie.han
   memo-kept : length memo₁ ≡ length a.args.memo.now
   memo-kept = a.support_from-word.auto.memo ∙ a.supports_of.auto.memo
 
-  negatable : Negatable (before a.before.before.before.before.before.before.before.before.before.before.before.before.before.before.before.before.before.before.before.before) a.args.live.now memo₁ a.args.g.0
-  negatable = memo-again (before a.before.before.before.before.before.before.before.before.before.before.before.before.before.before.before.before.before.before.before.before) a.args.live.now a.args.memo.now memo₁ a.args.g.0 memo-kept
+  negatable : Negatable (before
+      a.before.before.before.before.before.before.before.before.before.before.before.before.before.before.before.before.before.before.before.before) a.args.live.now memo₁ a.args.g.0
+  negatable = memo-again (before
+      a.before.before.before.before.before.before.before.before.before.before.before.before.before.before.before.before.before.before.before.before) a.args.live.now a.args.memo.now memo₁ a.args.g.0 memo-kept
       a.requires.fact.0
 
 pub supports_of-requires : goal.supports_of-requires
 supports_of-requires c =
-    let R = c.requires.fact.0.ready in
-    (good-readable (before c.before.before.before.before.before.before.before.before.before.before.before.before.before.before) R.good, R.inside, R.room, c.requires.memberwords_len.0)
+    let R = c.requires.fact.0.ready in (
+      good-readable (before c.before.before.before.before.before.before.before.before.before.before.before.before.before.before) R.good,
+      R.inside,
+      R.room,
+      c.requires.memberwords_len.0,
+    )
 
 pub support_from-word-requires : goal.support_from-word-requires
 support_from-word-requires c =
@@ -57,7 +63,17 @@ support_from-word-requires c =
 
 pub trace_by-requires : goal.trace_by-requires
 trace_by-requires c =
-    record { fact = (negatable c.before.before.before.before.before.before.before.before.before.before.before.before, c.requires.fact.1, c.requires.fact.2, c.requires.fact.3); fact_2 = (worded c.before.before.before.before.before.before.before.before.before.before.before.before, c.requires.memberwords_len.1); in_bounds = c.requires.in_bounds }
+    record {
+      fact = (
+        negatable c.before.before.before.before.before.before.before.before.before.before.before.before,
+        c.requires.fact.1,
+        c.requires.fact.2,
+        c.requires.fact.3,
+      );
+      fact_2 =
+          (worded c.before.before.before.before.before.before.before.before.before.before.before.before, c.requires.memberwords_len.1);
+      in_bounds = c.requires.in_bounds;
+    }
 
 pub shape_of-vars : goal.shape_of-vars
 shape_of-vars c =
@@ -81,7 +97,8 @@ shape_of-links c =
 
 pub shape_of-memo : goal.shape_of-memo
 shape_of-memo c =
-    c.trace_by.auto.memo ∙ memo-kept c.before.before.before.before.before.before.before.before.before.before.before.before.before.before.before.before.before.before.before.before.before.before.before.before.before.before.before.before.before.before.before
+    c.trace_by.auto.memo ∙ memo-kept
+    c.before.before.before.before.before.before.before.before.before.before.before.before.before.before.before.before.before.before.before.before.before.before.before.before.before.before.before.before.before.before.before
 
 pub shape_of-memberwords : goal.shape_of-memberwords
 shape_of-memberwords c =

@@ -1,7 +1,4 @@
 -- A constant is settled by its number, a node by its variable. Assumes nothing.
-use borrow.Author.Rules.{rules}
-use Prim.Native.Nat.{◌≤◌}
-use native.Mathlib.Omega.{arith}
 use Rattle.thin.proofs.LiteralSteps.{constant-settled, node-open, ends-settled}
 use Rattle.thin.proofs.literals.is_settled.Goals as goal
 

@@ -1,6 +1,5 @@
 -- `both_tries`: the first try decides, or the second over the same table. Assumes nothing.
 use mathlib.Core.Path.{refl, sym, ap, ◌∙◌}
-use borrow.Author.Rules.{rules}
 use native.Mathlib.Omega.{arith}
 use Rattle.table.specs.Indexed.{Table, table_of}
 use Rattle.conflict.specs.Marks.{unmarked}
@@ -102,7 +101,8 @@ returns c =
       fact = (
         c.second_try-second.ensures.fact.0 ∙ c.try_line-first.ensures.fact.0,
         both-twice _ _ _ _ c.try_line-first.result c.second_try-second.result c.if-made.false c.try_line-first.ensures.fact.1
-            (sym e.is_decided.ensures ∙ c.if-is_decided.false) (left c.before.before.before.before.before.before.before.before.before.before.before.before.before.before.before.before.before.before.before.before.before.before.before.before.before.before.before.before.before.before.before.before.before.before.before.before.before.before.before.before.before.before.before.before.before) c.try_line-first.ensures.fact.0
+            (sym e.is_decided.ensures ∙ c.if-is_decided.false)
+            (left c.before.before.before.before.before.before.before.before.before.before.before.before.before.before.before.before.before.before.before.before.before.before.before.before.before.before.before.before.before.before.before.before.before.before.before.before.before.before.before.before.before.before.before.before.before) c.try_line-first.ensures.fact.0
             c.second_try-second.ensures.fact.1 _ c.greater-peak.ensures,
       );
       marks_after = c.second_try-second.ensures.marks_after ∙ ap unmarked c.try_line-first.auto.vars;

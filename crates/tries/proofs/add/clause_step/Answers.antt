@@ -3,7 +3,6 @@ use mathlib.Core.Path.{◌≡◌, sym, ap, ◌∙◌, subst}
 use mathlib.Core.Bool.{false}
 use mathlib.Core.List.{List}
 use Prim.Native.Nat.{ℕ, ◌≤◌, ◌<◌}
-use borrow.Author.Rules.{rules}
 use native.Mathlib.Omega.{arith}
 use lib.ListN.{length}
 use Rattle.words.specs.Sets.{shares}
@@ -41,9 +40,11 @@ module _ (a : lts.After-make tie.the-claims reads.Pre reads.Post tie.handed_clau
   apart : shares 64 a.args.clause.literals.positive a.args.clause.literals.negative ≡ false
   apart = sym a.shared.ensures ∙ a.if-shared.false
 
-  larger : Grown (table_in (lent a.before.before.before.before.before.before.before.before.before.before.before.before.before.before.before.before.before.before.before.before.before) a.args.st.count) (clause_of_words a.args.clause.literals)
+  larger : Grown (table_in (lent
+      a.before.before.before.before.before.before.before.before.before.before.before.before.before.before.before.before.before.before.before.before.before) a.args.st.count) (clause_of_words a.args.clause.literals)
       (outcome_at table₁ a.make-made.result)
-  larger = grown (table_in (lent a.before.before.before.before.before.before.before.before.before.before.before.before.before.before.before.before.before.before.before.before.before) a.args.st.count) (held a.before.before.before.before.before.before.before.before.before.before.before.before.before.before.before.before.before.before.before.before.before).entries.good a.args.clause.literals table₁
+  larger = grown (table_in (lent
+      a.before.before.before.before.before.before.before.before.before.before.before.before.before.before.before.before.before.before.before.before.before) a.args.st.count) (held a.before.before.before.before.before.before.before.before.before.before.before.before.before.before.before.before.before.before.before.before.before).entries.good a.args.clause.literals table₁
       a.make-made.result a.make-made.ensures
 
 -- it is tried
@@ -58,7 +59,8 @@ module _ (b : lts.After-both_tries tie.the-claims reads.Pre reads.Post tie.hande
   back : table₂ ≡ table₁ b.before.before.before.before.before.before.before.before.before.before.before.before.before.before.before.before.before.before.before.before.before.before
   back = b.both_tries-j.ensures.fact.0
 
-  tried : BothTried (table₁ b.before.before.before.before.before.before.before.before.before.before.before.before.before.before.before.before.before.before.before.before.before.before) (live_in b.args.members.now b.args.struck.now b.args.st)
+  tried : BothTried (table₁
+      b.before.before.before.before.before.before.before.before.before.before.before.before.before.before.before.before.before.before.before.before.before.before) (live_in b.args.members.now b.args.struck.now b.args.st)
       b.args.clause b.make-made.result b.both_tries-j.result
   tried = b.both_tries-j.ensures.fact.1
 
@@ -67,24 +69,41 @@ module _ (b : lts.After-both_tries tie.the-claims reads.Pre reads.Post tie.hande
 
   added : Added (lent b.before.before.before.before.before.before.before.before.before.before.before.before.before.before.before.before.before.before.before.before.before.before.before.before.before.before.before.before.before.before.before.before.before.before.before.before.before.before.before.before.before.before.before) b.args.st (table₁ b.before.before.before.before.before.before.before.before.before.before.before.before.before.before.before.before.before.before.before.before.before.before) b.make-made.result b.both_tries-j.result
       b.args.clause
-  added = record { apart = apart b.before.before.before.before.before.before.before.before.before.before.before.before.before.before.before.before.before.before.before.before.before.before; made = b.make-made.ensures; tried = tried }
+  added = record {
+    apart = apart
+        b.before.before.before.before.before.before.before.before.before.before.before.before.before.before.before.before.before.before.before.before.before.before;
+    made = b.make-made.ensures;
+    tried = tried;
+  }
 
   scratch-room : 4096 ≤ length scratch₂
-  scratch-room = omega (arith, b.both_tries-j.auto.scratch, (held b.before.before.before.before.before.before.before.before.before.before.before.before.before.before.before.before.before.before.before.before.before.before.before.before.before.before.before.before.before.before.before.before.before.before.before.before.before.before.before.before.before.before.before).entries.room)
+  scratch-room = omega (
+    arith,
+    b.both_tries-j.auto.scratch,
+    (held b.before.before.before.before.before.before.before.before.before.before.before.before.before.before.before.before.before.before.before.before.before.before.before.before.before.before.before.before.before.before.before.before.before.before.before.before.before.before.before.before.before.before.before).entries.room,
+  )
 
 pub returns-then-st-ge1024 : goal.returns-then-st-ge1024
-returns-then-st-ge1024 c = record { stepped = (λ profile n ls H w is. clause-22 profile n (lent c.before.before.before.before.before.before.before.before.before.before.before.before.before.before) c.args.st H ls w c.if-st-ge1024.true); marks_after = c.requires.1 }
+returns-then-st-ge1024 c = record {
+  stepped = (λ profile n ls H w is. clause-22 profile n
+      (lent c.before.before.before.before.before.before.before.before.before.before.before.before.before.before) c.args.st H ls w
+      c.if-st-ge1024.true);
+  marks_after = c.requires.1;
+}
 
 pub returns-then-shared : goal.returns-then-shared
 returns-then-shared c =
     record {
-      stepped = (λ profile n ls H w is. code-17 profile n (lent c.before.before.before.before.before.before.before.before.before.before.before.before.before.before.before.before) c.args.st H ls w c.args.clause is c.if-st-ge1024.false
+      stepped = (λ profile n ls H w is. code-17 profile n
+          (lent c.before.before.before.before.before.before.before.before.before.before.before.before.before.before.before.before) c.args.st
+          H ls w c.args.clause is c.if-st-ge1024.false
           (sym c.shared.ensures ∙ c.if-shared.true));
       marks_after = c.requires.1;
     }
 
 pub make-made-requires : goal.make-made-requires
-make-made-requires c = (held c.before.before.before.before.before.before.before.before.before.before.before.before.before.before.before.before.before.before.before.before.before).entries.good
+make-made-requires c = (held
+    c.before.before.before.before.before.before.before.before.before.before.before.before.before.before.before.before.before.before.before.before.before).entries.good
 
 pub both_tries-j-requires : goal.both_tries-j-requires
 both_tries-j-requires c = (
@@ -106,8 +125,23 @@ drop_to-requires c =
 
 pub ended-requires : goal.ended-requires
 ended-requires c =
-    let H = held c.before.before.before.before.before.before.before.before.before.before.before.before.before.before.before.before.before.before.before.before.before.before.before.before.before.before.before.before.before.before.before.before.before.before.before.before.before.before.before.before.before.before.before.before.before.before.before.before.before.before.before.before.before.before.before.before.before.before.before.before.before.before.before.before.before.before.before.before.before.before.before.before.before.before.before.before.before.before in
-    (omega (arith, H.many, few c.before.before.before.before.before.before.before.before.before.before.before.before.before.before.before.before.before.before.before.before.before.before.before.before.before.before.before.before.before.before.before.before.before.before.before.before.before.before.before.before.before.before.before.before.before.before.before.before.before.before.before.before.before.before.before.before.before), H.room, H.lines, omega (arith, H.rounds, H.lines, few-rounds c.before.before.before.before.before.before.before.before.before.before.before.before.before.before.before.before.before.before.before.before.before.before.before.before.before.before.before.before.before.before.before.before.before.before.before))
+    let H = held c.before.before.before.before.before.before.before.before.before.before.before.before.before.before.before.before.before.before.before.before.before.before.before.before.before.before.before.before.before.before.before.before.before.before.before.before.before.before.before.before.before.before.before.before.before.before.before.before.before.before.before.before.before.before.before.before.before.before.before.before.before.before.before.before.before.before.before.before.before.before.before.before.before.before.before.before.before.before in (
+      omega (
+        arith,
+        H.many,
+        few
+            c.before.before.before.before.before.before.before.before.before.before.before.before.before.before.before.before.before.before.before.before.before.before.before.before.before.before.before.before.before.before.before.before.before.before.before.before.before.before.before.before.before.before.before.before.before.before.before.before.before.before.before.before.before.before.before.before.before,
+      ),
+      H.room,
+      H.lines,
+      omega (
+        arith,
+        H.rounds,
+        H.lines,
+        few-rounds
+            c.before.before.before.before.before.before.before.before.before.before.before.before.before.before.before.before.before.before.before.before.before.before.before.before.before.before.before.before.before.before.before.before.before.before.before,
+      ),
+    )
 
 pub shape_of-vars : goal.shape_of-vars
 shape_of-vars c = c.drop_to.auto.vars ∙ c.both_tries-j.auto.vars
@@ -144,11 +178,15 @@ shape_of-scratch c = c.both_tries-j.auto.scratch
 pub returns : goal.returns
 returns c =
     record {
-      stepped = (λ profile n ls H w is. code-stepped profile n (lent c.before.before.before.before.before.before.before.before.before.before.before.before.before.before.before.before.before.before.before.before.before.before.before.before.before.before.before.before.before.before.before.before.before.before.before.before.before.before.before.before.before.before.before.before.before.before.before.before.before.before.before.before.before.before.before.before.before.before.before.before.before.before.before.before.before.before.before.before.before.before.before.before.before.before.before.before.before.before.before.before.before) c.args.st H ls w c.args.clause is (few c.before.before.before.before.before.before.before.before.before.before.before.before.before.before.before.before.before.before.before.before.before.before.before.before.before.before.before.before.before.before.before.before.before.before.before.before.before.before.before.before.before.before.before.before.before.before.before.before.before.before.before.before.before.before.before.before.before.before.before.before) (table₁ c.before.before.before.before.before.before.before.before.before.before.before.before.before.before.before.before.before.before.before.before.before.before.before.before.before.before.before.before.before.before.before.before.before.before.before.before.before.before.before.before.before.before.before.before.before.before.before.before.before.before.before.before.before.before.before.before.before.before.before.before) c.make-made.result
-          c.both_tries-j.result (added c.before.before.before.before.before.before.before.before.before.before.before.before.before.before.before.before.before.before.before.before.before.before.before.before.before.before.before.before.before.before.before.before.before.before.before.before.before.before)
-          c.kept_count-keep.result c.kept_count-keep.ensures (table₂ c.before.before.before.before.before.before.before.before.before.before.before.before.before.before.before.before.before.before.before.before.before.before.before.before.before.before.before.before.before.before.before.before.before.before.before.before.before.before)
+      stepped = (λ profile n ls H w is. code-stepped profile n
+          (lent c.before.before.before.before.before.before.before.before.before.before.before.before.before.before.before.before.before.before.before.before.before.before.before.before.before.before.before.before.before.before.before.before.before.before.before.before.before.before.before.before.before.before.before.before.before.before.before.before.before.before.before.before.before.before.before.before.before.before.before.before.before.before.before.before.before.before.before.before.before.before.before.before.before.before.before.before.before.before.before.before.before) c.args.st H ls w c.args.clause is (few c.before.before.before.before.before.before.before.before.before.before.before.before.before.before.before.before.before.before.before.before.before.before.before.before.before.before.before.before.before.before.before.before.before.before.before.before.before.before.before.before.before.before.before.before.before.before.before.before.before.before.before.before.before.before.before.before.before.before.before.before) (table₁ c.before.before.before.before.before.before.before.before.before.before.before.before.before.before.before.before.before.before.before.before.before.before.before.before.before.before.before.before.before.before.before.before.before.before.before.before.before.before.before.before.before.before.before.before.before.before.before.before.before.before.before.before.before.before.before.before.before.before.before.before) c.make-made.result
+          c.both_tries-j.result (added
+          c.before.before.before.before.before.before.before.before.before.before.before.before.before.before.before.before.before.before.before.before.before.before.before.before.before.before.before.before.before.before.before.before.before.before.before.before.before.before)
+          c.kept_count-keep.result c.kept_count-keep.ensures
+          (table₂ c.before.before.before.before.before.before.before.before.before.before.before.before.before.before.before.before.before.before.before.before.before.before.before.before.before.before.before.before.before.before.before.before.before.before.before.before.before.before)
           (table_of c.drop_to.new.vars c.drop_to.new.lows c.drop_to.new.highs c.drop_to.new.heads c.drop_to.new.links
-          c.kept_count-keep.result) (back c.before.before.before.before.before.before.before.before.before.before.before.before.before.before.before.before.before.before.before.before.before.before.before.before.before.before.before.before.before.before.before.before.before.before.before.before.before.before) c.drop_to.ensures (scratch₂ c.before.before.before.before.before.before.before.before.before.before.before.before.before.before.before.before.before.before.before.before.before.before.before.before.before.before.before.before.before.before.before.before.before.before.before.before.before.before) (scratch-room c.before.before.before.before.before.before.before.before.before.before.before.before.before.before.before.before.before.before.before.before.before.before.before.before.before.before.before.before.before.before.before.before.before.before.before.before.before.before) _
+          c.kept_count-keep.result)
+          (back c.before.before.before.before.before.before.before.before.before.before.before.before.before.before.before.before.before.before.before.before.before.before.before.before.before.before.before.before.before.before.before.before.before.before.before.before.before.before) c.drop_to.ensures (scratch₂ c.before.before.before.before.before.before.before.before.before.before.before.before.before.before.before.before.before.before.before.before.before.before.before.before.before.before.before.before.before.before.before.before.before.before.before.before.before.before) (scratch-room c.before.before.before.before.before.before.before.before.before.before.before.before.before.before.before.before.before.before.before.before.before.before.before.before.before.before.before.before.before.before.before.before.before.before.before.before.before.before) _
           (with-nodes c.args.st c.make-made.result.count _ c.greater-peak.ensures) c.ended.ensures.value
           c.ended.ensures.members_after);
       marks_after = c.both_tries-j.ensures.marks_after ∙ ap unmarked c.make-made.auto.vars;

@@ -1,7 +1,6 @@
 -- `second_try` tries the line with the clause's witness. Assumes nothing.
 use mathlib.Core.Path.{◌≡◌, refl, sym, subst}
 use Prim.Native.Nat.{◌≤◌}
-use borrow.Author.Rules.{rules}
 use lib.ListN.{length, take}
 use Rattle.table.specs.Indexed.{Table, table_of}
 use Rattle.records.specs.declared.Rule.TheVariants.{Pr}

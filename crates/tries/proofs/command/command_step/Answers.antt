@@ -1,6 +1,5 @@
 -- `command_step`: the step of the command's kind; one law a kind (Commands). Assumes nothing.
 use mathlib.Core.Path.{refl}
-use borrow.Author.Rules.{rules}
 use native.Mathlib.Omega.{arith}
 use Rattle.steps.proofs.Lines.{held-64}
 use Rattle.tries.proofs.Commands.{says-recorded, says-added, says-struck, says-wrong, says-finished, says-as, pivot-of}
@@ -65,7 +64,11 @@ shape_of-struck-in-Recorded c =
 
 pub returns-in-Recorded : goal.returns-in-Recorded
 returns-in-Recorded c =
-    record { stepped = says-as _ _ _ _ _ _ _ _ c.in-Recorded.is (says-recorded _ _ _ _ _ _ _ _ c.record_step.ensures.fact); marks_after = c.record_step.ensures.marks_after }
+    record {
+      stepped = says-as _ _ _ _ _ _ _ _ c.in-Recorded.is (says-recorded _ _ _ _ _ _ _ _ c.record_step.ensures.fact);
+      marks_after =
+          c.record_step.ensures.marks_after;
+    }
 
 pub shape_of-vars-in-Added : goal.shape_of-vars-in-Added
 shape_of-vars-in-Added c =
@@ -128,4 +131,7 @@ returns-in-Wrong c =
     record { stepped = says-as _ _ _ _ _ _ _ _ c.in-Wrong.is (says-wrong _ _ _ _ _ _); marks_after = c.requires.1 }
 
 pub returns-in-Finished : goal.returns-in-Finished
-returns-in-Finished c = record { stepped = says-as _ _ _ _ _ _ _ _ c.in-Finished.is (says-finished _ _ _ _ _ _ (c.finish_step.ensures _ _)); marks_after = c.requires.1 }
+returns-in-Finished c = record {
+  stepped = says-as _ _ _ _ _ _ _ _ c.in-Finished.is (says-finished _ _ _ _ _ _ (c.finish_step.ensures _ _));
+  marks_after = c.requires.1;
+}

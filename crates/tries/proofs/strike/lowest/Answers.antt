@@ -1,9 +1,8 @@
 -- `lowest` passes over the members that are not there. Assumes nothing.
 use mathlib.Core.Path.{sym, ◌∙◌}
-use Prim.Native.Nat.{◌-◌, ◌≤◌}
-use borrow.Author.Rules.{rules}
+use Prim.Native.Nat.{◌-◌}
 use native.Mathlib.Omega.{arith}
-use Rattle.tries.proofs.Struck.{NoneBelow, none_more, there-lowest, none-lowest}
+use Rattle.tries.proofs.Struck.{none_more, there-lowest, none-lowest}
 use Rattle.tries.proofs.strike.lowest.Goals as goal
 
 pub loop-i-init : goal.loop-i-init

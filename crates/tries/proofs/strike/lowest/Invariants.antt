@@ -1,9 +1,6 @@
 -- `lowest` passes over the members that are not there. Assumes nothing.
-use mathlib.Core.Path.{sym, ◌∙◌}
 use Prim.Native.Nat.{◌-◌, ◌≤◌}
-use borrow.Author.Rules.{rules}
-use native.Mathlib.Omega.{arith}
-use Rattle.tries.proofs.Struck.{NoneBelow, none_more, there-lowest, none-lowest}
+use Rattle.tries.proofs.Struck.{NoneBelow}
 use Rattle.tries.proofs.strike.lowest.Given as goal
 
 abbrev pub invariant-loop-i : goal.invariant-loop-i

@@ -2,7 +2,6 @@
 use mathlib.Core.Path.{subst}
 use mathlib.Core.List.{List}
 use Prim.Native.Nat.{ℕ}
-use borrow.Author.Rules.{rules}
 use native.Mathlib.Omega.{arith}
 use Rattle.table.specs.Nodes.{place}
 use Rattle.table.specs.Indexed.{Table, table_of, size, nodes_of}
@@ -35,8 +34,11 @@ lowest-i-requires c = (c.requires.2, c.requires.3)
 
 pub returns-then-st-i : goal.returns-then-st-i
 returns-then-st-i c =
-    let found = subst (stands c.before.before.before.before.before.before.before.before.before.before.before.before.before.before) c.in-At.is c.find.ensures in
-    λ n cs ls H w is. strike-none n (lent c.before.before.before.before.before.before.before.before.before.before.before.before.before.before cs) c.args.st H ls w c.args.clause is _ _ found c.lowest-i.ensures
+    let found = subst (stands c.before.before.before.before.before.before.before.before.before.before.before.before.before.before)
+    c.in-At.is c.find.ensures in
+    λ n cs ls H w is. strike-none n
+    (lent c.before.before.before.before.before.before.before.before.before.before.before.before.before.before cs) c.args.st H ls w
+    c.args.clause is _ _ found c.lowest-i.ensures
     c.if-st-i.true
 
 pub bounds-struck-i : goal.bounds-struck-i
@@ -44,11 +46,15 @@ bounds-struck-i c = omega (arith, c.if-st-i.false, c.requires.3)
 
 pub returns-else-st-i : goal.returns-else-st-i
 returns-else-st-i c =
-    let found = subst (stands c.before.before.before.before.before.before.before.before.before.before.before.before.before.before) c.in-At.is c.find.ensures in
-    λ n cs ls H w is. strike-lowest n (lent c.before.before.before.before.before.before.before.before.before.before.before.before.before.before cs) c.args.st H ls w c.args.clause is _ _ found c.lowest-i.ensures
+    let found = subst (stands c.before.before.before.before.before.before.before.before.before.before.before.before.before.before)
+    c.in-At.is c.find.ensures in
+    λ n cs ls H w is. strike-lowest n
+    (lent c.before.before.before.before.before.before.before.before.before.before.before.before.before.before cs) c.args.st H ls w
+    c.args.clause is _ _ found c.lowest-i.ensures
     c.if-st-i.false
 
 pub returns-in-Nothing : goal.returns-in-Nothing
 returns-in-Nothing c =
-    λ n cs ls H w is. strike-absent n (lent c.before.before.before.before.before.before.before.before.before.before.before cs) c.args.st H ls w c.args.clause is
+    λ n cs ls H w is. strike-absent n (lent c.before.before.before.before.before.before.before.before.before.before.before cs) c.args.st H
+    ls w c.args.clause is
     (subst (stands c.before.before.before.before.before.before.before.before.before.before.before) c.in-Nothing.is c.find.ensures)

@@ -3,7 +3,6 @@ use Prim.Native.Nat.{ℕ}
 use native.Mathlib.Omega.{arith}
 use lib.ListN.{length-replicate}
 use Rattle.truth_rules.proofs.Conflicts.{zero-conflicts, negated-conflicts}
-use borrow.Author.Rules.{rules}
 use Rattle.truth_rules.proofs.conflict.conflicts.Goals as goal
 
 pub returns-then-is_listed : goal.returns-then-is_listed

@@ -1,9 +1,7 @@
 -- `is_listed`: whether the word is in the list. The idea: no place before the loop's has it. Assumes nothing.
 use native.Mathlib.Omega.{arith}
-use borrow.Author.Rules.{rules}
-use Prim.Native.Nat.{◌-◌, ◌≤◌}
-use lib.ListN.{length}
-use Rattle.truth_rules.proofs.Conflicts.{NotBefore, not-next, listed_at, listed-none}
+use Prim.Native.Nat.{◌-◌}
+use Rattle.truth_rules.proofs.Conflicts.{not-next, listed_at, listed-none}
 use Rattle.truth_rules.proofs.conflict.is_listed.Goals as goal
 
 pub loop-i-init : goal.loop-i-init

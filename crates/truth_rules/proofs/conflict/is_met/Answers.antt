@@ -1,6 +1,5 @@
 -- `is_met`: whether the key is marked and the word is listed. Assumes nothing.
 use Rattle.truth_rules.proofs.Conflicts.{unmarked-none}
-use borrow.Author.Rules.{rules}
 use Rattle.truth_rules.proofs.conflict.is_met.Goals as goal
 
 pub returns-then-seen-k-eq0 : goal.returns-then-seen-k-eq0

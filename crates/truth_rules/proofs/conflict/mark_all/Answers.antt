@@ -1,10 +1,8 @@
 -- `mark_all` marks the key of each word. The idea: marks stay. Assumes nothing.
-use borrow.Author.Rules.{rules}
-use mathlib.Core.Path.{◌≡◌, refl, ◌∙◌}
-use Prim.Native.Nat.{◌-◌, ◌≤◌}
-use lib.ListN.{length, length-set}
+use mathlib.Core.Path.{refl, ◌∙◌}
+use Prim.Native.Nat.{◌-◌}
+use lib.ListN.{length-set}
 use native.Mathlib.Omega.{arith}
-use Rattle.truth_rules.specs.Lists.{Marked}
 use Rattle.truth_rules.proofs.Conflicts.{marked_next}
 use Rattle.truth_rules.proofs.conflict.mark_all.Goals as goal
 

@@ -1,11 +1,8 @@
 -- `mark_all` marks the key of each word. The idea: marks stay. Assumes nothing.
-use borrow.Author.Rules.{rules}
-use mathlib.Core.Path.{◌≡◌, refl, ◌∙◌}
+use mathlib.Core.Path.{◌≡◌}
 use Prim.Native.Nat.{◌-◌, ◌≤◌}
-use lib.ListN.{length, length-set}
-use native.Mathlib.Omega.{arith}
+use lib.ListN.{length}
 use Rattle.truth_rules.specs.Lists.{Marked}
-use Rattle.truth_rules.proofs.Conflicts.{marked_next}
 use Rattle.truth_rules.proofs.conflict.mark_all.Given as goal
 
 abbrev pub invariant-loop-i : goal.invariant-loop-i

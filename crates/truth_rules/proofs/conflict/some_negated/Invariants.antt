@@ -1,10 +1,8 @@
 -- `some_negated`: a listed word whose negation is listed. The idea: only a word whose negation's key is marked is searched for. Assumes
 -- nothing.
-use borrow.Author.Rules.{rules}
 use Prim.Native.Nat.{◌-◌, ◌≤◌}
 use lib.ListN.{length}
-use native.Mathlib.Omega.{arith}
-use Rattle.truth_rules.proofs.Conflicts.{NoneNegated, negated-next, negated-at, negated-none}
+use Rattle.truth_rules.proofs.Conflicts.{NoneNegated}
 use Rattle.truth_rules.proofs.conflict.some_negated.Given as goal
 
 abbrev pub invariant-loop-i : goal.invariant-loop-i

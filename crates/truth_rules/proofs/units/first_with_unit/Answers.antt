@@ -1,10 +1,8 @@
 -- `first_with_unit`: the first member with a unit. The idea: no member before the loop's place has one. Assumes nothing.
-use borrow.Author.Rules.{rules}
 use Prim.Native.Nat.{◌-◌}
-use lib.ListN.{length}
 use mathlib.Core.Path.{refl}
 use native.Mathlib.Omega.{arith}
-use Rattle.truth_rules.proofs.UnitWords.{FirstFrom, first-here, first-later, first-none}
+use Rattle.truth_rules.proofs.UnitWords.{first-here, first-later, first-none}
 use Rattle.truth_rules.proofs.units.first_with_unit.Goals as goal
 
 pub loop-i-init : goal.loop-i-init

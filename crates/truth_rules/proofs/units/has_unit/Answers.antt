@@ -1,11 +1,7 @@
 -- `has_unit`: whether U of the word is not empty. The idea: no literal before the loop's variable is a unit. Assumes nothing.
-use Prim.Native.Nat.{◌≤◌}
-use Rattle.meaning.specs.Rules.{has_unit}
-use Rattle.truth.specs.Tables.{diagram_of}
 use native.Mathlib.Omega.{arith}
 use Rattle.truth_rules.proofs.UnitWords.{unit-true, unit-false, unit-none, units-none}
-use borrow.Author.Rules.{rules}
-use mathlib.Core.Path.{◌≡◌, refl}
+use mathlib.Core.Path.{refl}
 use Rattle.truth_rules.proofs.units.has_unit.Goals as goal
 
 pub loop-v-init : goal.loop-v-init

@@ -2,10 +2,7 @@
 use Prim.Native.Nat.{◌≤◌}
 use Rattle.meaning.specs.Rules.{has_unit}
 use Rattle.truth.specs.Tables.{diagram_of}
-use native.Mathlib.Omega.{arith}
-use Rattle.truth_rules.proofs.UnitWords.{unit-true, unit-false, unit-none, units-none}
-use borrow.Author.Rules.{rules}
-use mathlib.Core.Path.{◌≡◌, refl}
+use mathlib.Core.Path.{◌≡◌}
 use Rattle.truth_rules.proofs.units.has_unit.Given as goal
 
 abbrev pub invariant-loop-v : goal.invariant-loop-v

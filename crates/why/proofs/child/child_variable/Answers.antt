@@ -1,6 +1,5 @@
 -- `child_variable`: the low child's variable where v is not before it, else the high child's. Assumes nothing.
 use native.Mathlib.Omega.{arith}
-use borrow.Author.Rules.{rules}
 use Rattle.why.proofs.Children.{high-child, low-child}
 use Rattle.why.proofs.child.child_variable.Goals as goal
 

@@ -2,9 +2,8 @@
 use mathlib.Core.Path.{◌≡◌, sym, ap, ◌∙◌}
 use Prim.Native.Nat.{ℕ, ◌-◌}
 use native.Mathlib.Omega.{arith}
-use borrow.Author.Rules.{rules}
 use Rattle.commands.proofs.Stream.{record-short}
-use Rattle.why.specs.Again.{Walk, line_start}
+use Rattle.why.specs.Again.{line_start}
 use Rattle.why.proofs.Again.{walk-most, start-goes, start-ends}
 use Rattle.why.proofs.opening.line_start.Goals as goal
 

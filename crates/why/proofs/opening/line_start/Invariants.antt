@@ -1,11 +1,7 @@
 -- `line_start`: what is to be found is what is left to be found. The measure is what is left of the records. Assumes nothing.
-use mathlib.Core.Path.{◌≡◌, sym, ap, ◌∙◌}
-use Prim.Native.Nat.{ℕ, ◌-◌}
-use native.Mathlib.Omega.{arith}
-use borrow.Author.Rules.{rules}
-use Rattle.commands.proofs.Stream.{record-short}
+use mathlib.Core.Path.{◌≡◌}
+use Prim.Native.Nat.{◌-◌}
 use Rattle.why.specs.Again.{Walk, line_start}
-use Rattle.why.proofs.Again.{walk-most, start-goes, start-ends}
 use Rattle.why.proofs.opening.line_start.Given as goal
 
 abbrev pub invariant-loop-at : goal.invariant-loop-at

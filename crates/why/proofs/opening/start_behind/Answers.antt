@@ -1,6 +1,5 @@
 -- `start_behind`: behind a line the next line starts. Assumes nothing.
 use mathlib.Core.Path.{sym, ◌∙◌}
-use borrow.Author.Rules.{rules}
 use Rattle.why.proofs.opening.start_behind.Goals as goal
 
 pub returns-then-is_line : goal.returns-then-is_line

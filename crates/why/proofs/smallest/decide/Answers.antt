@@ -1,7 +1,6 @@
 -- `decide`: a variable that is decided stays; else it is false where the node is still 0 somewhere. Assumes nothing.
 use mathlib.Core.Path.{sym, ◌∙◌}
 use Rattle.why.proofs.Deciding.{decided-positive, decided-negative, decided-high, decided-low}
-use borrow.Author.Rules.{rules}
 use Rattle.why.proofs.smallest.decide.Goals as goal
 
 -- src/smallest.rt:34:9

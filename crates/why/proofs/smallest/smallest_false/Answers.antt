@@ -1,11 +1,8 @@
 -- `smallest_false`: variable after variable is decided, which keeps the smallest assignment. Assumes nothing.
-use mathlib.Core.Path.{◌≡◌, refl, ◌∙◌}
-use Prim.Native.Nat.{suc, ◌-◌}
+use mathlib.Core.Path.{refl, ◌∙◌}
+use Prim.Native.Nat.{◌-◌}
 use native.Mathlib.Omega.{arith}
-use lib.ListN.{length}
-use Rattle.table.specs.Nodes.{diagram_at}
-use Rattle.walks.specs.Readable.{nodes_in}
-use Rattle.why.proofs.Deciding.{Narrowed, narrowed-first, narrowed-on, narrowed-last}
+use Rattle.why.proofs.Deciding.{narrowed-first, narrowed-on, narrowed-last}
 use Rattle.why.proofs.smallest.smallest_false.Goals as goal
 
 -- src/smallest.rt:81:5
@@ -52,4 +49,8 @@ shape_of-memo c = c.loop-v.invariant.0
 
 -- src/smallest.rt:57:1
 pub returns : goal.returns
-returns c = record { result_value = narrowed-last _ _ _ _ _ c.loop-v.invariant.1 c.loop-v-test.false; by_index = c.loop-v.invariant.1.within }
+returns c = record {
+  result_value = narrowed-last _ _ _ _ _ c.loop-v.invariant.1 c.loop-v-test.false;
+  by_index =
+      c.loop-v.invariant.1.within;
+}

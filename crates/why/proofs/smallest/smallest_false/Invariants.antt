@@ -1,11 +1,10 @@
 -- `smallest_false`: variable after variable is decided, which keeps the smallest assignment. Assumes nothing.
-use mathlib.Core.Path.{◌≡◌, refl, ◌∙◌}
+use mathlib.Core.Path.{◌≡◌}
 use Prim.Native.Nat.{suc, ◌-◌}
-use native.Mathlib.Omega.{arith}
 use lib.ListN.{length}
 use Rattle.table.specs.Nodes.{diagram_at}
 use Rattle.walks.specs.Readable.{nodes_in}
-use Rattle.why.proofs.Deciding.{Narrowed, narrowed-first, narrowed-on, narrowed-last}
+use Rattle.why.proofs.Deciding.{Narrowed}
 use Rattle.why.proofs.smallest.smallest_false.Given as goal
 
 abbrev pub invariant-loop-v : goal.invariant-loop-v
