@@ -62,7 +62,8 @@ pub fn shut_cause(
     ensures g_value { (ds ks ms ss : List ℕ) → (
         let lent = lent_of vars.now lows.now highs.now ds ks ms scratch.now ss in
         let g = entry_node (state_of lent st) root.0 in
-        line_cause variables 18 (state_of lent st) Pr (diagram_in (state_of lent st) g) ≡ causes.assignment (assignment_of variables result)) }
+        line_cause variables 18 (state_of lent st) Pr (diagram_in (state_of lent st) g)
+        ≡ causes.assignment (assignment_of variables result)) }
     ensures by_index { (v : ℕ) → variables < v → in_word result v ≡ false }
 {
     let g = entries::node::entry_node(scratch, st.entries, root);

@@ -48,7 +48,8 @@ fn made(
     requires { Good (table_of vars.old lows.old highs.old heads.old links.old count) }
     ensures { let t = table_of vars.old lows.old highs.old heads.old links.old count in
         let after = columns_made vars.new lows.new highs.new heads.new links.new in
-        counted_of after result ≡ with_count (made_by (lists_of t) count (place (size t) (nodes_of t) (at_least 64 (in_word set) k))) set k }
+        counted_of after result
+        ≡ with_count (made_by (lists_of t) count (place (size t) (nodes_of t) (at_least 64 (in_word set) k))) set k }
 {
     let p = sets::at_least(vars, lows, highs, heads, links, count, set, k);
     if p.full {

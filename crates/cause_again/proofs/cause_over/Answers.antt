@@ -42,28 +42,44 @@ state_again-again-requires c =
 
 pub command_in-command-requires : goal.command_in-command-requires
 command_in-command-requires c =
+    let c12 = c.before.before.before.before.before.before.before.before.before.before.before.before in
+    let c24 = c12.before.before.before.before.before.before.before.before.before.before.before.before in
+    let c36 = c24.before.before.before.before.before.before.before.before.before.before.before.before in
     command-asks c.args.mode c.args.formula.now c.args.proof.now
-    (lent c.before.before.before.before.before.before.before.before.before.before.before.before.before.before.before.before.before.before.before.before.before.before.before.before.before.before.before.before.before.before.before.before.before.before.before.before.before.before.before.before.before.before.before.before.before.before) c.args.checked c.requires.0 c.requires.1
+    (lent c36.before.before.before.before.before.before.before.before.before.before) c.args.checked c.requires.0 c.requires.1
     c.requires.2 c.requires.3
-    (made c.before.before.before.before.before.before.before.before.before.before.before.before.before.before.before.before.before.before.before.before.before.before) c.state_again-again.result c.state_again-again.ensures.made_again
+    (made c12.before.before.before.before.before.before.before.before.before.before) c.state_again-again.result
+    c.state_again-again.ensures.made_again
 
 pub cause-cause-requires : goal.cause-cause-requires
 cause-cause-requires c =
+    let c12 = c.before.before.before.before.before.before.before.before.before.before.before.before in
+    let c24 = c12.before.before.before.before.before.before.before.before.before.before.before.before in
+    let c36 = c24.before.before.before.before.before.before.before.before.before.before.before.before in
+    let c48 = c36.before.before.before.before.before.before.before.before.before.before.before.before in
     cause-asks c.args.mode c.args.formula.now c.args.proof.now
-    (lent c.before.before.before.before.before.before.before.before.before.before.before.before.before.before.before.before.before.before.before.before.before.before.before.before.before.before.before.before.before.before.before.before.before.before.before.before.before.before.before.before.before.before.before.before.before.before.before.before.before.before.before.before.before.before.before.before) c.args.checked c.requires.0 c.requires.1 c.requires.2
-    c.requires.3 (made c.before.before.before.before.before.before.before.before.before.before.before.before.before.before.before.before.before.before.before.before.before.before.before.before.before.before.before.before.before.before.before.before) c.state_again-again.result c.state_again-again.ensures.made_again c.command_in-command.result c.command_in-command.ensures
+    (lent c48.before.before.before.before.before.before.before.before) c.args.checked c.requires.0 c.requires.1 c.requires.2
+    c.requires.3 (made c24.before.before.before.before.before.before.before.before) c.state_again-again.result
+    c.state_again-again.ensures.made_again c.command_in-command.result c.command_in-command.ensures
     c.state_again-again.new.marks c.state_again-again.new.memo c.args.fixed.now
-    (length (made c.before.before.before.before.before.before.before.before.before.before.before.before.before.before.before.before.before.before.before.before.before.before.before.before.before.before.before.before.before.before.before.before).vars)
-    (same_size c.before.before.before.before.before.before.before.before.before.before.before.before.before.before.before.before.before.before.before.before.before.before.before.before.before.before.before.before.before.before.before.before)
+    (length (made c24.before.before.before.before.before.before.before.before).vars)
+    (same_size c24.before.before.before.before.before.before.before.before)
     (c.state_again-again.ensures.marks_after ∙ ap unmarked
-    (sym (same_size c.before.before.before.before.before.before.before.before.before.before.before.before.before.before.before.before.before.before.before.before.before.before.before.before.before.before.before.before.before.before.before.before)))
+    (sym (same_size c24.before.before.before.before.before.before.before.before)))
     (omega (arith, c.requires.5, c.state_again-again.auto.vars, c.state_again-again.auto.memo)) c.requires.6 c.requires.7
 
 pub drop_to-requires : goal.drop_to-requires
 drop_to-requires c =
+    let c12 = c.before.before.before.before.before.before.before.before.before.before.before.before in
+    let c24 = c12.before.before.before.before.before.before.before.before.before.before.before.before in
+    let c36 = c24.before.before.before.before.before.before.before.before.before.before.before.before in
+    let c48 = c36.before.before.before.before.before.before.before.before.before.before.before.before in
+    let c60 = c48.before.before.before.before.before.before.before.before.before.before.before.before in
+    let c72 = c60.before.before.before.before.before.before.before.before.before.before.before.before in
     drop-asks c.args.mode c.args.formula.now c.args.proof.now
-    (lent c.before.before.before.before.before.before.before.before.before.before.before.before.before.before.before.before.before.before.before.before.before.before.before.before.before.before.before.before.before.before.before.before.before.before.before.before.before.before.before.before.before.before.before.before.before.before.before.before.before.before.before.before.before.before.before.before.before.before.before.before.before.before.before.before.before.before.before.before.before.before.before.before.before.before.before.before.before.before.before.before) c.args.checked c.requires.0 c.requires.1 c.requires.2
-    c.requires.3 (made c.before.before.before.before.before.before.before.before.before.before.before.before.before.before.before.before.before.before.before.before.before.before.before.before.before.before.before.before.before.before.before.before.before.before.before.before.before.before.before.before.before.before.before.before.before.before.before.before.before.before.before.before.before.before.before.before) c.state_again-again.result c.state_again-again.ensures.made_again (table₁ c.before.before.before.before.before.before.before.before.before.before.before.before.before.before.before.before.before.before.before.before.before.before.before.before) c.cause-cause.ensures.count_unchanged
+    (lent c72.before.before.before.before.before.before.before.before) c.args.checked c.requires.0 c.requires.1 c.requires.2
+    c.requires.3 (made c48.before.before.before.before.before.before.before.before) c.state_again-again.result
+    c.state_again-again.ensures.made_again (table₁ c24) c.cause-cause.ensures.count_unchanged
 
 pub shape_of-vars : goal.shape_of-vars
 shape_of-vars c =
@@ -116,28 +132,39 @@ shape_of-fixed c =
 
 pub returns : goal.returns
 returns c =
+    let c12 = c.before.before.before.before.before.before.before.before.before.before.before.before in
+    let c24 = c12.before.before.before.before.before.before.before.before.before.before.before.before in
+    let c36 = c24.before.before.before.before.before.before.before.before.before.before.before.before in
+    let c48 = c36.before.before.before.before.before.before.before.before.before.before.before.before in
+    let c60 = c48.before.before.before.before.before.before.before.before.before.before.before.before in
+    let c72 = c60.before.before.before.before.before.before.before.before.before.before.before.before in
+    let c84 = c72.before.before.before.before.before.before.before.before.before.before.before.before in
     record {
       fixed_after = cause-told c.args.mode c.args.formula.now c.args.proof.now
-          (lent c.before.before.before.before.before.before.before.before.before.before.before.before.before.before.before.before.before.before.before.before.before.before.before.before.before.before.before.before.before.before.before.before.before.before.before.before.before.before.before.before.before.before.before.before.before.before.before.before.before.before.before.before.before.before.before.before.before.before.before.before.before.before.before.before.before.before.before.before.before.before.before.before.before.before.before.before.before.before.before.before.before.before.before.before.before.before.before.before.before.before.before.before.before.before.before) c.args.checked c.requires.0 c.requires.1
+          (lent c84.before.before.before.before.before.before.before.before.before.before.before) c.args.checked c.requires.0 c.requires.1
           c.requires.2 c.requires.3
-          (made c.before.before.before.before.before.before.before.before.before.before.before.before.before.before.before.before.before.before.before.before.before.before.before.before.before.before.before.before.before.before.before.before.before.before.before.before.before.before.before.before.before.before.before.before.before.before.before.before.before.before.before.before.before.before.before.before.before.before.before.before.before.before.before.before.before.before.before.before.before.before.before) c.state_again-again.result c.state_again-again.ensures.made_again c.command_in-command.result
+          (made c60.before.before.before.before.before.before.before.before.before.before.before) c.state_again-again.result
+          c.state_again-again.ensures.made_again c.command_in-command.result
           c.command_in-command.ensures (length (made
-          c.before.before.before.before.before.before.before.before.before.before.before.before.before.before.before.before.before.before.before.before.before.before.before.before.before.before.before.before.before.before.before.before.before.before.before.before.before.before.before.before.before.before.before.before.before.before.before.before.before.before.before.before.before.before.before.before.before.before.before.before.before.before.before.before.before.before.before.before.before.before.before).vars) (length c.args.fixed.now) (same_size c.before.before.before.before.before.before.before.before.before.before.before.before.before.before.before.before.before.before.before.before.before.before.before.before.before.before.before.before.before.before.before.before.before.before.before.before.before.before.before.before.before.before.before.before.before.before.before.before.before.before.before.before.before.before.before.before.before.before.before.before.before.before.before.before.before.before.before.before.before.before.before)
+          c60.before.before.before.before.before.before.before.before.before.before.before).vars) (length c.args.fixed.now)
+          (same_size c60.before.before.before.before.before.before.before.before.before.before.before)
           (told_by c.cause-cause.result c.cause-cause.new.fixed) c.cause-cause.ensures.fixed_after;
       returned_after = lists_back c.args.mode c.args.formula.now c.args.proof.now
-          (lent c.before.before.before.before.before.before.before.before.before.before.before.before.before.before.before.before.before.before.before.before.before.before.before.before.before.before.before.before.before.before.before.before.before.before.before.before.before.before.before.before.before.before.before.before.before.before.before.before.before.before.before.before.before.before.before.before.before.before.before.before.before.before.before.before.before.before.before.before.before.before.before.before.before.before.before.before.before.before.before.before.before.before.before.before.before.before.before.before.before.before.before.before.before.before.before) c.args.checked c.requires.0 c.requires.1
+          (lent c84.before.before.before.before.before.before.before.before.before.before.before) c.args.checked c.requires.0 c.requires.1
           c.requires.2 c.requires.3
-          (made c.before.before.before.before.before.before.before.before.before.before.before.before.before.before.before.before.before.before.before.before.before.before.before.before.before.before.before.before.before.before.before.before.before.before.before.before.before.before.before.before.before.before.before.before.before.before.before.before.before.before.before.before.before.before.before.before.before.before.before.before.before.before.before.before.before.before.before.before.before.before.before) c.state_again-again.result c.state_again-again.ensures.made_again
+          (made c60.before.before.before.before.before.before.before.before.before.before.before) c.state_again-again.result
+          c.state_again-again.ensures.made_again
           (columns_made c.drop_to.new.vars c.drop_to.new.lows c.drop_to.new.highs c.drop_to.new.heads c.drop_to.new.links)
           c.clear_numbers.new.numbers
           (dropped-columns c.args.mode c.args.formula.now c.args.proof.now
-          (lent c.before.before.before.before.before.before.before.before.before.before.before.before.before.before.before.before.before.before.before.before.before.before.before.before.before.before.before.before.before.before.before.before.before.before.before.before.before.before.before.before.before.before.before.before.before.before.before.before.before.before.before.before.before.before.before.before.before.before.before.before.before.before.before.before.before.before.before.before.before.before.before.before.before.before.before.before.before.before.before.before.before.before.before.before.before.before.before.before.before.before.before.before.before.before.before) c.args.checked c.requires.0 c.requires.1
+          (lent c84.before.before.before.before.before.before.before.before.before.before.before) c.args.checked c.requires.0 c.requires.1
           c.requires.2 c.requires.3
-          (made c.before.before.before.before.before.before.before.before.before.before.before.before.before.before.before.before.before.before.before.before.before.before.before.before.before.before.before.before.before.before.before.before.before.before.before.before.before.before.before.before.before.before.before.before.before.before.before.before.before.before.before.before.before.before.before.before.before.before.before.before.before.before.before.before.before.before.before.before.before.before.before) c.state_again-again.result c.state_again-again.ensures.made_again (table₁ c.before.before.before.before.before.before.before.before.before.before.before.before.before.before.before.before.before.before.before.before.before.before.before.before.before.before.before.before.before.before.before.before.before.before.before.before.before.before.before) c.cause-cause.ensures.count_unchanged
+          (made c60.before.before.before.before.before.before.before.before.before.before.before) c.state_again-again.result
+          c.state_again-again.ensures.made_again (table₁ c36.before.before.before) c.cause-cause.ensures.count_unchanged
           (table_of c.drop_to.new.vars c.drop_to.new.lows c.drop_to.new.highs c.drop_to.new.heads c.drop_to.new.links c.args.checked.count)
           _
           (c.cause-cause.auto.vars ∙ same_size
-          c.before.before.before.before.before.before.before.before.before.before.before.before.before.before.before.before.before.before.before.before.before.before.before.before.before.before.before.before.before.before.before.before.before.before.before.before.before.before.before.before.before.before.before.before.before.before.before.before.before.before.before.before.before.before.before.before.before.before.before.before.before.before.before.before.before.before.before.before.before.before.before) c.drop_to.ensures)
+          c60.before.before.before.before.before.before.before.before.before.before.before) c.drop_to.ensures)
           (c.clear_numbers.ensures ∙ ap zeros
           (c.cause-cause.auto.scratch ∙ c.state_again-again.auto.scratch));
     }

@@ -59,15 +59,22 @@ module _ (b : lts.After-tried_cause tie.the-claims reads.Pre reads.Post tie.hand
   back = b.tried_cause-failed.ensures.fact_2.0
 
 pub make-made-requires : goal.make-made-requires
-make-made-requires c = (held
-    c.before.before.before.before.before.before.before.before.before.before.before.before.before.before.before.before.before.before).entries.good
+make-made-requires c =
+    let c12 = c.before.before.before.before.before.before.before.before.before.before.before.before in
+    (held
+    c12.before.before.before.before.before.before).entries.good
 
 pub tried_cause-failed-requires : goal.tried_cause-failed-requires
 tried_cause-failed-requires c =
-    let H = held c.before.before.before.before.before.before.before.before.before.before.before.before.before.before.before.before.before.before.before.before.before.before.before.before.before.before.before.before.before.before.before.before.before.before.before.before.before.before.before in record {
+    let c12 = c.before.before.before.before.before.before.before.before.before.before.before.before in
+    let c24 = c12.before.before.before.before.before.before.before.before.before.before.before.before in
+    let c36 = c24.before.before.before.before.before.before.before.before.before.before.before.before in
+    let H = held c36.before.before.before in record {
       fact = (
-        tries-ready (lent c.before.before.before.before.before.before.before.before.before.before.before.before.before.before.before.before.before.before.before.before.before.before.before.before.before.before.before.before.before.before.before.before.before.before.before.before.before.before.before) c.args.st H c.args.clause.literals
-            (code_apart (lent c.before.before.before.before.before.before.before.before.before.before.before.before.before.before.before.before.before.before.before.before.before.before.before.before.before.before.before.before.before.before.before.before.before.before.before.before.before.before.before) c.args.st c.args.clause (refused c.before.before.before.before.before.before.before.before.before.before.before.before.before.before.before.before.before.before.before.before.before.before.before.before.before.before.before.before.before.before.before.before.before.before.before.before.before.before.before) (table₁ c.before.before.before.before.before.before.before.before.before.before.before.before.before.before.before.before.before.before.before.before.before) c.make-made.result c.make-made.ensures) (table₁ c.before.before.before.before.before.before.before.before.before.before.before.before.before.before.before.before.before.before.before.before.before)
+        tries-ready (lent c36.before.before.before) c.args.st H c.args.clause.literals
+            (code_apart (lent c36.before.before.before) c.args.st c.args.clause (refused c36.before.before.before)
+            (table₁ c12.before.before.before.before.before.before.before.before.before) c.make-made.result c.make-made.ensures)
+            (table₁ c12.before.before.before.before.before.before.before.before.before)
             c.make-made.result c.make-made.ensures
             c.args.memo.now c.requires.2,
         c.requires.1 ∙ ap unmarked (sym c.make-made.auto.vars),
@@ -76,14 +83,23 @@ tried_cause-failed-requires c =
         H.entries.room,
         H.marked,
         c.requires.3,
-        code-fails (lent c.before.before.before.before.before.before.before.before.before.before.before.before.before.before.before.before.before.before.before.before.before.before.before.before.before.before.before.before.before.before.before.before.before.before.before.before.before.before.before) c.args.st c.args.clause (refused c.before.before.before.before.before.before.before.before.before.before.before.before.before.before.before.before.before.before.before.before.before.before.before.before.before.before.before.before.before.before.before.before.before.before.before.before.before.before.before) (table₁ c.before.before.before.before.before.before.before.before.before.before.before.before.before.before.before.before.before.before.before.before.before) c.make-made.result c.make-made.ensures,
+        code-fails (lent c36.before.before.before) c.args.st c.args.clause (refused c36.before.before.before)
+            (table₁ c12.before.before.before.before.before.before.before.before.before) c.make-made.result c.make-made.ensures,
       );
       in_bounds = (c.requires.4, c.requires.5);
     }
 
 pub drop_to-requires : goal.drop_to-requires
 drop_to-requires c =
-    (subst Good (sym (back c.before.before.before.before.before.before.before.before.before.before.before.before.before.before.before.before.before.before.before.before.before.before.before.before)) (larger c.before.before.before.before.before.before.before.before.before.before.before.before.before.before.before.before.before.before.before.before.before.before.before.before.before.before.before.before.before.before.before.before.before.before.before.before.before.before.before.before.before.before.before.before.before).good, (held c.before.before.before.before.before.before.before.before.before.before.before.before.before.before.before.before.before.before.before.before.before.before.before.before.before.before.before.before.before.before.before.before.before.before.before.before.before.before.before.before.before.before.before.before.before.before.before.before.before.before.before.before.before.before.before.before.before.before.before.before.before.before.before).entries.good.least, (larger c.before.before.before.before.before.before.before.before.before.before.before.before.before.before.before.before.before.before.before.before.before.before.before.before.before.before.before.before.before.before.before.before.before.before.before.before.before.before.before.before.before.before.before.before.before).more)
+    let c12 = c.before.before.before.before.before.before.before.before.before.before.before.before in
+    let c24 = c12.before.before.before.before.before.before.before.before.before.before.before.before in
+    let c36 = c24.before.before.before.before.before.before.before.before.before.before.before.before in
+    let c48 = c36.before.before.before.before.before.before.before.before.before.before.before.before in
+    let c60 = c48.before.before.before.before.before.before.before.before.before.before.before.before in (
+      subst Good (sym (back c24)) (larger c36.before.before.before.before.before.before.before.before.before).good,
+      (held c60.before.before.before).entries.good.least,
+      (larger c36.before.before.before.before.before.before.before.before.before).more,
+    )
 
 pub shape_of-vars : goal.shape_of-vars
 shape_of-vars c =
@@ -122,15 +138,25 @@ shape_of-fixed c = c.tried_cause-failed.auto.fixed
 
 pub returns : goal.returns
 returns c =
+    let c12 = c.before.before.before.before.before.before.before.before.before.before.before.before in
+    let c24 = c12.before.before.before.before.before.before.before.before.before.before.before.before in
+    let c36 = c24.before.before.before.before.before.before.before.before.before.before.before.before in
+    let c48 = c36.before.before.before.before.before.before.before.before.before.before.before.before in
+    let c60 = c48.before.before.before.before.before.before.before.before.before.before.before.before in
+    let c72 = c60.before.before.before.before.before.before.before.before.before.before.before.before in
     record {
       st_value = (λ R. ap (λ (m : ℕ). told m (clause_cause R.profile R.n
-          (state_of (lent c.before.before.before.before.before.before.before.before.before.before.before.before.before.before.before.before.before.before.before.before.before.before.before.before.before.before.before.before.before.before.before.before.before.before.before.before.before.before.before.before.before.before.before.before.before.before.before.before.before.before.before.before.before.before.before.before.before.before.before.before.before.before.before.before.before.before.before.before.before.before.before.before.before.before) c.args.st) R.literals))
+          (state_of (lent c72.before.before) c.args.st) R.literals))
           (sym c.tried_cause-failed.auto.fixed)
-          ∙ code-told (lent c.before.before.before.before.before.before.before.before.before.before.before.before.before.before.before.before.before.before.before.before.before.before.before.before.before.before.before.before.before.before.before.before.before.before.before.before.before.before.before.before.before.before.before.before.before.before.before.before.before.before.before.before.before.before.before.before.before.before.before.before.before.before.before.before.before.before.before.before.before.before.before.before.before.before) c.args.st c.args.clause R (table₁ c.before.before.before.before.before.before.before.before.before.before.before.before.before.before.before.before.before.before.before.before.before.before.before.before.before.before.before.before.before.before.before.before.before.before.before.before.before.before.before.before.before.before.before.before.before.before.before.before.before.before.before.before.before.before.before.before) c.make-made.result c.make-made.ensures c.tried_cause-failed.result
-          (words c.before.before.before.before.before.before.before.before.before.before.before.before.before.before.before.before.before.before.before.before.before.before.before.before.before.before.before.before.before.before.before.before.before.before.before) c.tried_cause-failed.ensures.fact_2.1);
+          ∙ code-told (lent c72.before.before) c.args.st c.args.clause R
+          (table₁ c48.before.before.before.before.before.before.before.before) c.make-made.result c.make-made.ensures
+          c.tried_cause-failed.result
+          (words c24.before.before.before.before.before.before.before.before.before.before.before) c.tried_cause-failed.ensures.fact_2.1);
       count_unchanged = code-undone
-          (lent c.before.before.before.before.before.before.before.before.before.before.before.before.before.before.before.before.before.before.before.before.before.before.before.before.before.before.before.before.before.before.before.before.before.before.before.before.before.before.before.before.before.before.before.before.before.before.before.before.before.before.before.before.before.before.before.before.before.before.before.before.before.before.before.before.before.before.before.before.before.before.before.before.before.before) c.args.st c.args.clause (refused c.before.before.before.before.before.before.before.before.before.before.before.before.before.before.before.before.before.before.before.before.before.before.before.before.before.before.before.before.before.before.before.before.before.before.before.before.before.before.before.before.before.before.before.before.before.before.before.before.before.before.before.before.before.before.before.before.before.before.before.before.before.before.before.before.before.before.before.before.before.before.before.before.before.before) (table₁ c.before.before.before.before.before.before.before.before.before.before.before.before.before.before.before.before.before.before.before.before.before.before.before.before.before.before.before.before.before.before.before.before.before.before.before.before.before.before.before.before.before.before.before.before.before.before.before.before.before.before.before.before.before.before.before.before) c.make-made.result c.make-made.ensures (table₂ c.before.before.before.before.before.before.before.before.before.before.before.before.before.before.before.before.before.before.before.before.before.before.before.before.before.before.before.before.before.before.before.before.before.before.before)
+          (lent c72.before.before) c.args.st c.args.clause (refused c72.before.before)
+          (table₁ c48.before.before.before.before.before.before.before.before) c.make-made.result c.make-made.ensures
+          (table₂ c24.before.before.before.before.before.before.before.before.before.before.before)
           (table_of c.drop_to.new.vars c.drop_to.new.lows c.drop_to.new.highs c.drop_to.new.heads c.drop_to.new.links c.args.st.count)
-          (back c.before.before.before.before.before.before.before.before.before.before.before.before.before.before.before.before.before.before.before.before.before.before.before.before.before.before.before.before.before.before.before.before.before.before.before) c.drop_to.ensures;
+          (back c24.before.before.before.before.before.before.before.before.before.before.before) c.drop_to.ensures;
       marks_after = c.tried_cause-failed.ensures.marks_after ∙ ap unmarked c.make-made.auto.vars;
     }

@@ -23,6 +23,7 @@ module _ (s : lts.Start tie.the-claims reads.Pre reads.Post tie.handed_clauses) 
 
 pub rup_cause-rounds-requires : goal.rup_cause-rounds-requires
 rup_cause-rounds-requires c =
+    let c12 = c.before.before.before.before.before.before.before.before.before.before.before.before in
     record {
       fact = (
         c.requires.fact.0,
@@ -30,7 +31,8 @@ rup_cause-rounds-requires c =
         c.requires.fact.3,
         c.requires.fact.4,
         c.requires.fact.5,
-        first-fails (before c.before.before.before.before.before.before.before.before.before.before.before.before.before.before.before.before.before.before.before.before.before.before) (live c.before.before.before.before.before.before.before.before.before.before.before.before.before.before.before.before.before.before.before.before.before.before) _ _ _ c.in-Nothing.is c.requires.fact.7,
+        first-fails (before c12.before.before.before.before.before.before.before.before.before.before)
+            (live c12.before.before.before.before.before.before.before.before.before.before) _ _ _ c.in-Nothing.is c.requires.fact.7,
       );
       in_bounds = c.requires.in_bounds;
     }
@@ -40,6 +42,8 @@ witness-w-requires c = subst PivotFits c.in-First.is c.requires.fact.6
 
 pub pr_cause-t-requires : goal.pr_cause-t-requires
 pr_cause-t-requires c =
+    let c12 = c.before.before.before.before.before.before.before.before.before.before.before.before in
+    let c24 = c12.before.before.before.before.before.before.before.before.before.before.before.before in
     record {
       fact = (
         c.requires.fact.0,
@@ -48,7 +52,7 @@ pr_cause-t-requires c =
         c.requires.fact.3,
         c.requires.fact.4,
         c.requires.fact.5,
-        second-fails (before c.before.before.before.before.before.before.before.before.before.before.before.before.before.before.before.before.before.before.before.before.before.before.before.before) (live c.before.before.before.before.before.before.before.before.before.before.before.before.before.before.before.before.before.before.before.before.before.before.before.before) _ _ _ _ _ c.in-First.is _
+        second-fails (before c24) (live c24) _ _ _ _ _ c.in-First.is _
             c.witness-w.ensures c.requires.fact.7,
       );
       in_bounds = c.requires.in_bounds;

@@ -164,7 +164,8 @@ loop-number-smaller c =
 
 pub loop-number-preserved : goal.loop-number-preserved
 loop-number-preserved c =
-    let after-make = c.before.before.before.before.before.before.before.before.before.before.before.before.before in (
+    let c12 = c.before.before.before.before.before.before.before.before.before.before.before.before in
+    let after-make = c12.before in (
       building-next _ _ _ _ _ _ _ _ _ c.loop-number.invariant.0 _ (sym c.next_clause.ensures ∙ c.in-Closed.is)
           (left after-make) c.make-p.ensures c.if-p.false,
       c.make-p.auto.vars ∙ c.loop-number.invariant.1,

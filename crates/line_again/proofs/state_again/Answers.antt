@@ -26,21 +26,23 @@ module _ (c : lts.After-remake tie.the-claims reads.Pre reads.Post tie.handed_cl
 
 pub begun_of-begun-requires : goal.begun_of-begun-requires
 begun_of-begun-requires c =
+    let c12 = c.before.before.before.before.before.before.before.before.before.before.before.before in
     few-lines c.args.mode c.args.formula.now c.args.proof.now
-    (lent c.before.before.before.before.before.before.before.before.before.before.before.before.before)
+    (lent c12.before)
     c.args.count c.args.lines c.args.place c.requires.0 c.requires.1 c.requires.2
 
 pub returns-then-is_drat : goal.returns-then-is_drat
 returns-then-is_drat c =
+    let c12 = c.before.before.before.before.before.before.before.before.before.before.before.before in
     record {
       made_again = made_of c.args.mode c.args.formula.now c.args.proof.now
-          (lent c.before.before.before.before.before.before.before.before.before.before.before.before.before.before.before.before)
+          (lent c12.before.before.before.before)
           c.args.count c.args.lines c.args.place
           c.requires.0 c.requires.1 c.requires.2
-          (lent c.before.before.before.before.before.before.before.before.before.before.before.before.before.before.before.before)
+          (lent c12.before.before.before.before)
           c.begun_of-begun.result
           (drat-made c.args.mode c.args.formula.now c.args.proof.now
-          (lent c.before.before.before.before.before.before.before.before.before.before.before.before.before.before.before.before)
+          (lent c12.before.before.before.before)
           c.args.count c.args.lines
           c.args.place c.requires.0 c.requires.1 c.requires.2 c.begun_of-begun.result c.begun_of-begun.ensures
           (sym c.is_drat.ensures ∙ c.if-is_drat.true));
@@ -49,17 +51,20 @@ returns-then-is_drat c =
 
 pub line_start-from-requires : goal.line_start-from-requires
 line_start-from-requires c =
+    let c12 = c.before.before.before.before.before.before.before.before.before.before.before.before in
     start-asks c.args.mode c.args.formula.now c.args.proof.now
-    (lent c.before.before.before.before.before.before.before.before.before.before.before.before.before.before.before.before)
+    (lent c12.before.before.before.before)
     c.args.count c.args.lines c.args.place
     c.requires.0 c.requires.1 c.requires.2 c.begun_of-begun.result c.begun_of-begun.ensures (records c.before)
 
 pub remake-state-requires : goal.remake-state-requires
 remake-state-requires c =
+    let c12 = c.before.before.before.before.before.before.before.before.before.before.before.before in
+    let c24 = c12.before.before.before.before.before.before.before.before.before.before.before.before in
     remake-asks c.args.mode c.args.formula.now c.args.proof.now
-    (lent c.before.before.before.before.before.before.before.before.before.before.before.before.before.before.before.before.before.before.before.before.before.before.before.before.before.before.before.before) c.args.count c.args.lines c.args.place
+    (lent c24.before.before.before.before) c.args.count c.args.lines c.args.place
     c.requires.0 c.requires.1 c.requires.2 c.begun_of-begun.result c.begun_of-begun.ensures
-    (records c.before.before.before.before.before.before.before.before.before.before.before.before.before) c.line_start-from.result
+    (records c12.before) c.line_start-from.result
     c.line_start-from.ensures c.args.marks.now c.args.memo.now c.requires.3 c.requires.4
 
 pub shape_of-vars : goal.shape_of-vars
@@ -104,17 +109,21 @@ shape_of-struck c =
 
 pub returns : goal.returns
 returns c =
+    let c12 = c.before.before.before.before.before.before.before.before.before.before.before.before in
+    let c24 = c12.before.before.before.before.before.before.before.before.before.before.before.before in
+    let c36 = c24.before.before.before.before.before.before.before.before.before.before.before.before in
+    let c48 = c36.before.before.before.before.before.before.before.before.before.before.before.before in
     record {
       made_again = made_of c.args.mode c.args.formula.now c.args.proof.now
-          (lent c.before.before.before.before.before.before.before.before.before.before.before.before.before.before.before.before.before.before.before.before.before.before.before.before.before.before.before.before.before.before.before.before.before.before.before.before.before.before.before.before.before.before.before.before.before.before.before.before.before) c.args.count c.args.lines c.args.place
+          (lent c48.before) c.args.count c.args.lines c.args.place
           c.requires.0 c.requires.1 c.requires.2
-          (returned c.before.before.before.before.before.before.before.before.before.before.before.before.before.before.before.before.before.before.before.before.before) _
+          (returned c12.before.before.before.before.before.before.before.before.before) _
           (records-made c.args.mode c.args.formula.now c.args.proof.now
-          (lent c.before.before.before.before.before.before.before.before.before.before.before.before.before.before.before.before.before.before.before.before.before.before.before.before.before.before.before.before.before.before.before.before.before.before.before.before.before.before.before.before.before.before.before.before.before.before.before.before.before) c.args.count c.args.lines
+          (lent c48.before) c.args.count c.args.lines
           c.args.place c.requires.0 c.requires.1 c.requires.2 c.begun_of-begun.result c.begun_of-begun.ensures
-          (records c.before.before.before.before.before.before.before.before.before.before.before.before.before.before.before.before.before.before.before.before.before.before.before.before.before.before.before.before.before.before.before.before.before.before)
+          (records c24.before.before.before.before.before.before.before.before.before.before)
           c.line_start-from.result c.line_start-from.ensures
-          (returned c.before.before.before.before.before.before.before.before.before.before.before.before.before.before.before.before.before.before.before.before.before) c.remake-state.result
+          (returned c12.before.before.before.before.before.before.before.before.before) c.remake-state.result
           c.remake-state.ensures.fact.0 c.remake-state.ensures.fact.1 c.remake-state.auto.members
           c.remake-state.auto.struck);
       marks_after = c.remake-state.ensures.marks_after;

@@ -147,7 +147,8 @@ join-returns-then-p-clause-fact t c = (kept₁ c.before).right
 
 pub join-work_out-q-requires : goal.join-work_out-q-requires
 join-work_out-q-requires t c =
-    let m : LowDone t = c.before.before.before.before.before.before.before.before.before.before.before.before.before.before.before.before in
+    let c12 = c.before.before.before.before.before.before.before.before.before.before.before.before in
+    let m : LowDone t = c12.before.before.before.before in
     (omega (arith, c.decreases, after₁ m, (j-ready m).operands.most), (ready₁ m, shared₁ m, c.mixed-high.ensures))
 
 pub join-returns-then-q-clause-result_after : goal.join-returns-then-q-clause-result_after
@@ -167,7 +168,8 @@ join-put-requires t c =
 
 pub join-returns-clause-result_after : goal.join-returns-clause-result_after
 join-returns-clause-result_after t c =
-    let n : HighDone t = c.before.before.before.before.before.before.before.before.before.before.before.before.before.before.before.before.before.before.before.before in
+    let c12 = c.before.before.before.before.before.before.before.before.before.before.before.before in
+    let n : HighDone t = c12.before.before.before.before.before.before.before.before in
     let m : LowDone t = jm n in
     let y = c.put in
     both-done (j-op m) (j-table m) (j-sides m) (j-ready m).operands (out₁ m) (left₁ m).is c.if-p.false (out₂ n) (left₂ n).is c.if-q.false
@@ -175,7 +177,8 @@ join-returns-clause-result_after t c =
 
 pub join-returns-clause-fact : goal.join-returns-clause-fact
 join-returns-clause-fact t c =
-    let n : HighDone t = c.before.before.before.before.before.before.before.before.before.before.before.before.before.before.before.before.before.before.before.before in
+    let c12 = c.before.before.before.before.before.before.before.before.before.before.before.before in
+    let n : HighDone t = c12.before.before.before.before.before.before.before.before in
     let m : LowDone t = jm n in
     let y = c.put in
     memo-joined (j-op m) (j-table m) (j-sides m) (j-ready m).operands (out₁ m) (left₁ m).is c.if-p.false (out₂ n) (left₂ n).is c.if-q.false

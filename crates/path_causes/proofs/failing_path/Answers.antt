@@ -86,25 +86,29 @@ first_path-literals-requires c = (
 
 pub loop-root-init : goal.loop-root-init
 unfolding nodes_of
-loop-root-init c = (
-  refl,
-  passing-none (before c.before.before.before.before.before.before.before.before.before.before.before.before.before) c.args.members.now
-      c.args.root.0 (good c.before.before.before.before.before.before.before.before.before.before.before.before.before),
-  c.requires.fact.1,
-  refl,
-  refl,
-  refl,
-  next-first (before c.before.before.before.before.before.before.before.before.before.before.before.before.before) c.args.members.now
-      c.args.root.0 (good c.before.before.before.before.before.before.before.before.before.before.before.before.before)
-      c.requires.fact.0.inside c.requires.fact.0.not-one
-      c.first_path-literals.result c.first_path-literals.ensures,
-)
+loop-root-init c =
+    let c12 = c.before.before.before.before.before.before.before.before.before.before.before.before in (
+      refl,
+      passing-none (before c12.before) c.args.members.now
+          c.args.root.0 (good c12.before),
+      c.requires.fact.1,
+      refl,
+      refl,
+      refl,
+      next-first (before c12.before) c.args.members.now
+          c.args.root.0 (good c12.before)
+          c.requires.fact.0.inside c.requires.fact.0.not-one
+          c.first_path-literals.result c.first_path-literals.ensures,
+    )
 
 pub path_turn-t-requires : goal.path_turn-t-requires
 path_turn-t-requires c =
+    let c12 = c.before.before.before.before.before.before.before.before.before.before.before.before in
     record {
       fact = (
-        again-ready (before c.before.before.before.before.before.before.before.before.before.before.before.before.before.before.before.before.before.before.before.before.before.before.before) (table_of c.loop-root.vars c.loop-root.lows c.loop-root.highs c.loop-root.heads c.loop-root.links c.args.count) c.args.members.now
+        again-ready (before c12.before.before.before.before.before.before.before.before.before.before.before)
+            (table_of c.loop-root.vars c.loop-root.lows c.loop-root.highs c.loop-root.heads c.loop-root.links c.args.count)
+            c.args.members.now
             c.args.memo.now c.loop-root.memo c.loop-root.invariant.0 c.loop-root.invariant.3 c.requires.fact.0.ready,
         c.loop-root.invariant.2 ∙ sym (ap (λ (t : Table). unmarked (length t.vars)) c.loop-root.invariant.0),
         c.loop-root.invariant.4 ∙ c.requires.fact.2,
@@ -120,7 +124,17 @@ path_turn-t-requires c =
 
 pub drop_to-requires : goal.drop_to-requires
 drop_to-requires c =
-    ((said c.before.before.before.before.before.before.before.before.before.before.before.before.before.before.before.before.before.before.before.before.before.before.before.before).extended.good, omega (arith, (good c.before.before.before.before.before.before.before.before.before.before.before.before.before.before.before.before.before.before.before.before.before.before.before.before.before.before.before.before.before.before.before.before.before.before.before.before.before.before.before.before.before.before.before.before.before.before.before).least, (said c.before.before.before.before.before.before.before.before.before.before.before.before.before.before.before.before.before.before.before.before.before.before.before.before).extended.more), omega (arith, (said c.before.before.before.before.before.before.before.before.before.before.before.before.before.before.before.before.before.before.before.before.before.before.before.before).extended.more))
+    let c12 = c.before.before.before.before.before.before.before.before.before.before.before.before in
+    let c24 = c12.before.before.before.before.before.before.before.before.before.before.before.before in
+    let c36 = c24.before.before.before.before.before.before.before.before.before.before.before.before in (
+      (said c24).extended.good,
+      omega (
+        arith,
+        (good c36.before.before.before.before.before.before.before.before.before.before.before).least,
+        (said c24).extended.more,
+      ),
+      omega (arith, (said c24).extended.more),
+    )
 
 pub shape_of-vars-then-not-t : goal.shape_of-vars-then-not-t
 shape_of-vars-then-not-t c =
@@ -166,50 +180,73 @@ shape_of-words-then-not-t c =
 
 pub returns-then-not-t : goal.returns-then-not-t
 returns-then-not-t c =
+    let c12 = c.before.before.before.before.before.before.before.before.before.before.before.before in
+    let c24 = c12.before.before.before.before.before.before.before.before.before.before.before.before in
+    let c36 = c24.before.before.before.before.before.before.before.before.before.before.before.before in
+    let c48 = c36.before.before.before.before.before.before.before.before.before.before.before.before in
+    let c60 = c48.before.before.before.before.before.before.before.before.before.before.before.before in
     record {
       fact_3 = (
-        as_before c.before.before.before.before.before.before.before.before.before.before.before.before.before,
-        stops-here (before c.before.before.before.before.before.before.before.before.before.before.before.before.before.before.before.before.before.before.before.before.before.before.before.before.before.before.before.before.before.before.before.before.before.before.before.before.before.before.before.before.before.before.before.before.before.before.before.before.before.before.before.before.before.before.before.before.before.before.before.before) c.args.members.now c.args.root.0 (good c.before.before.before.before.before.before.before.before.before.before.before.before.before.before.before.before.before.before.before.before.before.before.before.before.before.before.before.before.before.before.before.before.before.before.before.before.before.before.before.before.before.before.before.before.before.before.before.before.before.before.before.before.before.before.before.before.before.before.before.before) c.requires.fact.0.inside c.requires.fact.4
+        as_before c12.before,
+        stops-here (before c60) c.args.members.now c.args.root.0 (good c60) c.requires.fact.0.inside c.requires.fact.4
             c.requires.fact.5 c.loop-root.passed c.loop-root.invariant.1 c.loop-root.literals c.loop-root.invariant.6 c.path_turn-t.result
-            (table₁ c.before.before.before.before.before.before.before.before.before.before.before.before.before.before.before.before.before.before.before.before.before.before.before.before.before.before.before.before.before.before.before.before.before.before.before.before.before) (said c.before.before.before.before.before.before.before.before.before.before.before.before.before.before.before.before.before.before.before.before.before.before.before.before.before.before.before.before.before.before.before.before.before.before.before.before.before)
+            (table₁ c36.before) (said c36.before)
             (sym (not-not c.path_turn-t.result.shown) ∙ ap not c.if-not-t.true),
       );
       marks_after = unmarked-again
-          c.before.before.before.before.before.before.before.before.before.before.before.before.before.before.before.before.before.before.before.before.before.before.before.before.before.before.before.before.before.before.before.before.before.before.before.before.before;
+          c36.before;
     }
 
 pub path_after-next-requires : goal.path_after-next-requires
-path_after-next-requires c = (
-  good-readable (dropped c.before.before.before.before.before.before.before.before.before.before.before.before.before)
-      (subst Good (sym (as_before c.before.before.before.before.before.before.before.before.before.before.before.before.before))
-      (good c.before.before.before.before.before.before.before.before.before.before.before.before.before.before.before.before.before.before.before.before.before.before.before.before.before.before.before.before.before.before.before.before.before.before.before.before.before.before.before.before.before.before.before.before.before.before.before.before.before.before.before.before.before.before.before.before.before.before.before.before)),
-  c.requires.fact.0.inside,
-)
+path_after-next-requires c =
+    let c12 = c.before.before.before.before.before.before.before.before.before.before.before.before in
+    let c24 = c12.before.before.before.before.before.before.before.before.before.before.before.before in
+    let c36 = c24.before.before.before.before.before.before.before.before.before.before.before.before in
+    let c48 = c36.before.before.before.before.before.before.before.before.before.before.before.before in
+    let c60 = c48.before.before.before.before.before.before.before.before.before.before.before.before in (
+      good-readable (dropped c12.before)
+          (subst Good (sym (as_before c12.before))
+          (good c60)),
+      c.requires.fact.0.inside,
+    )
 
 pub overflow_add-passed : goal.overflow_add-passed
 overflow_add-passed c =
-    let a = c.before.before.before.before.before.before.before.before.before.before.before.before.before.before.before.before.before.before.before.before.before.before.before.before.before.before.before.before.before.before.before.before.before.before.before.before.before.before.before in omega (arith, not_last c.before.before.before.before.before.before.before.before.before.before.before.before.before.before.before.before.before.before.before.before.before.before.before.before.before.before.before.before.before.before.before.before.before.before.before.before.before.before.before, a.requires.fact.4)
+    let c12 = c.before.before.before.before.before.before.before.before.before.before.before.before in
+    let c24 = c12.before.before.before.before.before.before.before.before.before.before.before.before in
+    let c36 = c24.before.before.before.before.before.before.before.before.before.before.before.before in
+    let a = c36.before.before.before in omega (arith, not_last c36.before.before.before, a.requires.fact.4)
 
 pub loop-root-smaller : goal.loop-root-smaller
 loop-root-smaller c =
-    omega (arith, not_last c.before.before.before.before.before.before.before.before.before.before.before.before.before.before.before.before.before.before.before.before.before.before.before.before.before.before.before.before.before.before.before.before.before.before.before.before.before.before.before)
+    let c12 = c.before.before.before.before.before.before.before.before.before.before.before.before in
+    let c24 = c12.before.before.before.before.before.before.before.before.before.before.before.before in
+    let c36 = c24.before.before.before.before.before.before.before.before.before.before.before.before in
+    omega (arith, not_last c36.before.before.before)
 
 pub loop-root-preserved : goal.loop-root-preserved
 unfolding nodes_of
 loop-root-preserved c =
+    let c12 = c.before.before.before.before.before.before.before.before.before.before.before.before in
+    let c24 = c12.before.before.before.before.before.before.before.before.before.before.before.before in
+    let c36 = c24.before.before.before.before.before.before.before.before.before.before.before.before in
+    let c48 = c36.before.before.before.before.before.before.before.before.before.before.before.before in
+    let c60 = c48.before.before.before.before.before.before.before.before.before.before.before.before in
     let z = sym (not-not c.path_turn-t.result.shown) ∙ ap not c.if-not-t.false in (
-      as_before c.before.before.before.before.before.before.before.before.before.before.before.before.before.before.before,
-      goes_on (before c.before.before.before.before.before.before.before.before.before.before.before.before.before.before.before.before.before.before.before.before.before.before.before.before.before.before.before.before.before.before.before.before.before.before.before.before.before.before.before.before.before.before.before.before.before.before.before.before.before.before.before.before.before.before.before.before.before.before.before.before.before.before) c.args.members.now c.args.root.0 (good c.before.before.before.before.before.before.before.before.before.before.before.before.before.before.before.before.before.before.before.before.before.before.before.before.before.before.before.before.before.before.before.before.before.before.before.before.before.before.before.before.before.before.before.before.before.before.before.before.before.before.before.before.before.before.before.before.before.before.before.before.before.before) c.requires.fact.0.inside c.requires.fact.4 c.requires.fact.5
+      as_before c12.before.before.before,
+      goes_on (before c60.before.before) c.args.members.now c.args.root.0 (good c60.before.before) c.requires.fact.0.inside
+          c.requires.fact.4 c.requires.fact.5
           c.loop-root.passed c.loop-root.invariant.1 c.loop-root.literals c.loop-root.invariant.6 c.path_turn-t.result
-          (table₁ c.before.before.before.before.before.before.before.before.before.before.before.before.before.before.before.before.before.before.before.before.before.before.before.before.before.before.before.before.before.before.before.before.before.before.before.before.before.before.before) (said c.before.before.before.before.before.before.before.before.before.before.before.before.before.before.before.before.before.before.before.before.before.before.before.before.before.before.before.before.before.before.before.before.before.before.before.before.before.before.before) z,
-      unmarked-again c.before.before.before.before.before.before.before.before.before.before.before.before.before.before.before.before.before.before.before.before.before.before.before.before.before.before.before.before.before.before.before.before.before.before.before.before.before.before.before,
+          (table₁ c36.before.before.before) (said c36.before.before.before) z,
+      unmarked-again c36.before.before.before,
       c.path_turn-t.auto.memo ∙ c.loop-root.invariant.3,
       c.path_turn-t.auto.list ∙ c.loop-root.invariant.4,
       c.path_turn-t.auto.words ∙ c.loop-root.invariant.5,
-      another (before c.before.before.before.before.before.before.before.before.before.before.before.before.before.before.before.before.before.before.before.before.before.before.before.before.before.before.before.before.before.before.before.before.before.before.before.before.before.before.before.before.before.before.before.before.before.before.before.before.before.before.before.before.before.before.before.before.before.before.before.before.before.before) c.args.members.now c.args.root.0 (good c.before.before.before.before.before.before.before.before.before.before.before.before.before.before.before.before.before.before.before.before.before.before.before.before.before.before.before.before.before.before.before.before.before.before.before.before.before.before.before.before.before.before.before.before.before.before.before.before.before.before.before.before.before.before.before.before.before.before.before.before.before.before) c.requires.fact.0.inside c.requires.fact.4 c.requires.fact.5
+      another (before c60.before.before) c.args.members.now c.args.root.0 (good c60.before.before) c.requires.fact.0.inside
+          c.requires.fact.4 c.requires.fact.5
           c.loop-root.passed c.loop-root.invariant.1 c.loop-root.literals c.loop-root.invariant.6 c.path_turn-t.result
-          (table₁ c.before.before.before.before.before.before.before.before.before.before.before.before.before.before.before.before.before.before.before.before.before.before.before.before.before.before.before.before.before.before.before.before.before.before.before.before.before.before.before) (said c.before.before.before.before.before.before.before.before.before.before.before.before.before.before.before.before.before.before.before.before.before.before.before.before.before.before.before.before.before.before.before.before.before.before.before.before.before.before.before) z c.path_after-next.result
+          (table₁ c36.before.before.before) (said c36.before.before.before) z c.path_after-next.result
           (c.path_after-next.ensures ∙ ap
           (λ (t : Table). after_from (diagram_at (nodes_of t) c.args.root.0) c.loop-root.literals.positive no_literals no_path)
-          (as_before c.before.before.before.before.before.before.before.before.before.before.before.before.before.before.before)),
+          (as_before c12.before.before.before)),
     )

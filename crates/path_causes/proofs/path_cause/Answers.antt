@@ -102,32 +102,35 @@ slice_bounds-words-end c =
 
 pub slice_bounds-path_over-end-5 : goal.slice_bounds-path_over-end-5
 slice_bounds-path_over-end-5 c =
-    sym (own-length c.before.before.before.before.before.before.before.before.before.before.before.before.before)
+    let c12 = c.before.before.before.before.before.before.before.before.before.before.before.before in
+    sym (own-length c12.before)
 
 pub path_over-requires : goal.path_over-requires
 path_over-requires c =
-    let B = before c.before.before.before.before.before.before.before.before.before.before.before.before.before.before.before.before.before.before.before.before.before.before.before.before.before.before.before in record {
+    let c12 = c.before.before.before.before.before.before.before.before.before.before.before.before in
+    let c24 = c12.before.before.before.before.before.before.before.before.before.before.before.before in
+    let B = before c24.before.before.before in record {
       fact = (
         subst (λ (ms : List ℕ). Negatable B ms c.args.memo.now c.args.g.0)
-            (sym (gathered-is c.before.before.before.before.before.before.before.before.before.before.before.before.before.before))
-            (ready c.before.before.before.before.before.before.before.before.before.before.before.before.before.before.before.before.before.before.before.before.before.before.before.before.before.before.before),
+            (sym (gathered-is c12.before.before))
+            (ready c24.before.before.before),
         c.requires.fact.1,
-        scratch-length c.before.before.before.before.before.before.before.before.before.before.before.before.before.before
-            ∙ sym (gathered-length c.before.before.before.before.before.before.before.before.before.before.before.before.before.before),
+        scratch-length c12.before.before
+            ∙ sym (gathered-length c12.before.before),
         omega (
           arith,
-          gathered-length c.before.before.before.before.before.before.before.before.before.before.before.before.before.before,
-          few c.before.before.before.before.before.before.before.before.before.before.before.before.before.before,
+          gathered-length c12.before.before,
+          few c12.before.before,
         ),
         c.requires.fact.6,
         subst (λ (ms : List ℕ). Unshown B (path_line 64 (diagrams_of (nodes_of B) ms)
-            (root c.before.before.before.before.before.before.before.before.before.before.before.before.before.before.before.before.before.before.before.before.before.before.before.before.before.before.before))) (sym (gathered-is c.before.before.before.before.before.before.before.before.before.before.before.before.before.before)) c.requires.fact.7,
+            (root c24.before.before.before))) (sym (gathered-is c12.before.before)) c.requires.fact.7,
       );
       memberwords_len = (
-        own-length c.before.before.before.before.before.before.before.before.before.before.before.before.before.before
-            ∙ sym (gathered-length c.before.before.before.before.before.before.before.before.before.before.before.before.before.before),
-        own-length c.before.before.before.before.before.before.before.before.before.before.before.before.before.before
-            ∙ sym (gathered-length c.before.before.before.before.before.before.before.before.before.before.before.before.before.before),
+        own-length c12.before.before
+            ∙ sym (gathered-length c12.before.before),
+        own-length c12.before.before
+            ∙ sym (gathered-length c12.before.before),
       );
       in_bounds = c.requires.in_bounds;
     }
@@ -166,13 +169,17 @@ shape_of-fixed c =
 
 pub returns : goal.returns
 returns c =
-    let B = before c.before.before.before.before.before.before.before.before.before.before.before.before.before.before.before.before.before.before.before.before.before.before.before.before.before.before.before.before.before.before.before.before.before.before.before.before.before.before.before.before.before.before.before.before.before.before.before.before in
+    let c12 = c.before.before.before.before.before.before.before.before.before.before.before.before in
+    let c24 = c12.before.before.before.before.before.before.before.before.before.before.before.before in
+    let c36 = c24.before.before.before.before.before.before.before.before.before.before.before.before in
+    let c48 = c36.before.before.before.before.before.before.before.before.before.before.before.before in
+    let B = before c48 in
     record {
       fact_2 = (
         c.path_over.ensures.fact_2.0,
         subst (λ (ms : List ℕ). PathTold (diagrams_of (nodes_of B) ms)
-            (root c.before.before.before.before.before.before.before.before.before.before.before.before.before.before.before.before.before.before.before.before.before.before.before.before.before.before.before.before.before.before.before.before.before.before.before.before.before.before.before.before.before.before.before.before.before.before.before.before) c.path_over.result c.path_over.new.fixed)
-            (gathered-is c.before.before.before.before.before.before.before.before.before.before.before.before.before.before.before.before.before.before.before.before.before.before.before.before.before.before.before.before.before.before.before.before.before.before.before) c.path_over.ensures.fact_2.1,
+            (root c48) c.path_over.result c.path_over.new.fixed)
+            (gathered-is c24.before.before.before.before.before.before.before.before.before.before.before) c.path_over.ensures.fact_2.1,
       );
       marks_after = c.path_over.ensures.marks_after;
     }

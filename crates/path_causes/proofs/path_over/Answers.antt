@@ -68,8 +68,9 @@ module _ (a : lts.After-path_traced tie.the-claims reads.Pre reads.Post tie.hand
 
 pub supports_of-requires : goal.supports_of-requires
 supports_of-requires c =
+    let c12 = c.before.before.before.before.before.before.before.before.before.before.before.before in
     let R = c.requires.fact.0.ready in (
-      good-readable (before c.before.before.before.before.before.before.before.before.before.before.before.before.before.before.before)
+      good-readable (before c12.before.before.before)
           R.good,
       R.inside,
       R.room,
@@ -79,9 +80,12 @@ supports_of-requires c =
 pub failing_path-literals-requires : goal.failing_path-literals-requires
 unfolding nodes_of
 failing_path-literals-requires c =
+    let c12 = c.before.before.before.before.before.before.before.before.before.before.before.before in
+    let c24 = c12.before.before.before.before.before.before.before.before.before.before.before.before in
     record {
       fact = (
-        memo-again (before c.before.before.before.before.before.before.before.before.before.before.before.before.before.before.before.before.before.before.before.before.before.before.before.before.before.before.before.before.before) c.args.live.now c.args.memo.now c.supports_of.new.memo c.args.g.0 c.supports_of.auto.memo
+        memo-again (before c24.before.before.before.before.before) c.args.live.now c.args.memo.now c.supports_of.new.memo c.args.g.0
+            c.supports_of.auto.memo
             c.requires.fact.0,
         c.requires.fact.1,
         c.requires.fact.2,
@@ -95,20 +99,25 @@ failing_path-literals-requires c =
 pub path_traced-t-requires : goal.path_traced-t-requires
 unfolding nodes_of
 path_traced-t-requires c =
+    let c12 = c.before.before.before.before.before.before.before.before.before.before.before.before in
+    let c24 = c12.before.before.before.before.before.before.before.before.before.before.before.before in
+    let c36 = c24.before.before.before.before.before.before.before.before.before.before.before.before in
+    let c48 = c36.before.before.before.before.before.before.before.before.before.before.before.before in
     record {
       fact = (
-        again-ready (before c.before.before.before.before.before.before.before.before.before.before.before.before.before.before.before.before.before.before.before.before.before.before.before.before.before.before.before.before.before.before.before.before.before.before.before.before.before.before.before.before.before.before.before.before.before.before.before.before.before.before.before.before.before.before.before.before.before) (table₁ c.before.before.before.before.before.before.before.before.before.before.before.before.before.before.before.before.before.before.before.before.before.before.before.before.before.before.before.before) c.args.live.now c.args.memo.now c.failing_path-literals.new.memo (as_before c.before.before.before.before.before.before.before.before.before.before.before.before.before.before.before.before.before.before.before.before.before.before.before.before.before.before.before.before)
-            (memo-length c.before.before.before.before.before.before.before.before.before.before.before.before.before.before.before.before.before.before.before.before.before.before.before.before.before.before.before.before) c.requires.fact.0.ready,
+        again-ready (before c48.before.before.before.before.before.before.before.before.before) (table₁ c24.before.before.before.before)
+            c.args.live.now c.args.memo.now c.failing_path-literals.new.memo (as_before c24.before.before.before.before)
+            (memo-length c24.before.before.before.before) c.requires.fact.0.ready,
         c.failing_path-literals.auto.list ∙ c.requires.fact.2,
         c.requires.fact.3,
         subst (λ (t : Table). Unshown t (turn_by c.failing_path-literals.result (diagrams_of (nodes_of t) c.args.live.now)))
-            (sym (as_before c.before.before.before.before.before.before.before.before.before.before.before.before.before.before.before.before.before.before.before.before.before.before.before.before.before.before.before.before))
-            (failing c.before.before.before.before.before.before.before.before.before.before.before.before.before.before.before.before.before.before.before.before.before.before.before.before.before.before.before.before).fails,
+            (sym (as_before c24.before.before.before.before))
+            (failing c24.before.before.before.before).fails,
       );
       fact_2 = (
         c.supports_of.auto.words ∙ c.requires.memberwords_len.0,
         subst (λ (t : Table). Supports (nodes_of t) c.args.live.now c.supports_of.new.words)
-            (sym (as_before c.before.before.before.before.before.before.before.before.before.before.before.before.before.before.before.before.before.before.before.before.before.before.before.before.before.before.before.before)) c.supports_of.ensures.fact,
+            (sym (as_before c24.before.before.before.before)) c.supports_of.ensures.fact,
         c.failing_path-literals.auto.words ∙ c.requires.memberwords_len.1,
       );
       in_bounds = c.requires.in_bounds;
@@ -116,8 +125,14 @@ path_traced-t-requires c =
 
 pub drop_to-requires : goal.drop_to-requires
 drop_to-requires c =
-    let E = more c.before.before.before.before.before.before.before.before.before.before.before.before.before.before.before.before.before.before.before.before.before.before.before.before in
-    (E.good, (good c.before.before.before.before.before.before.before.before.before.before.before.before.before.before.before.before.before.before.before.before.before.before.before.before.before.before.before.before.before.before.before.before.before.before.before.before.before.before.before.before.before.before.before.before.before.before.before.before.before.before.before.before.before.before.before.before.before.before.before.before.before.before.before.before.before.before.before.before.before.before.before.before.before.before.before.before.before.before.before.before.before).least, E.more)
+    let c12 = c.before.before.before.before.before.before.before.before.before.before.before.before in
+    let c24 = c12.before.before.before.before.before.before.before.before.before.before.before.before in
+    let c36 = c24.before.before.before.before.before.before.before.before.before.before.before.before in
+    let c48 = c36.before.before.before.before.before.before.before.before.before.before.before.before in
+    let c60 = c48.before.before.before.before.before.before.before.before.before.before.before.before in
+    let c72 = c60.before.before.before.before.before.before.before.before.before.before.before.before in
+    let E = more c24 in
+    (E.good, (good c72.before.before.before.before.before.before.before.before.before).least, E.more)
 
 pub shape_of-vars : goal.shape_of-vars
 shape_of-vars c =
@@ -146,8 +161,13 @@ shape_of-links c =
 
 pub shape_of-memo : goal.shape_of-memo
 shape_of-memo c =
+    let c12 = c.before.before.before.before.before.before.before.before.before.before.before.before in
+    let c24 = c12.before.before.before.before.before.before.before.before.before.before.before.before in
+    let c36 = c24.before.before.before.before.before.before.before.before.before.before.before.before in
+    let c48 = c36.before.before.before.before.before.before.before.before.before.before.before.before in
+    let c60 = c48.before.before.before.before.before.before.before.before.before.before.before.before in
     c.path_traced-t.auto.memo ∙ memo-length
-    c.before.before.before.before.before.before.before.before.before.before.before.before.before.before.before.before.before.before.before.before.before.before.before.before.before.before.before.before.before.before.before.before.before.before.before.before.before.before.before.before.before.before.before.before.before.before.before.before.before.before.before.before.before.before.before.before.before.before.before.before.before.before.before
+    c60.before.before.before
 
 pub shape_of-marks : goal.shape_of-marks
 shape_of-marks c =
@@ -173,12 +193,24 @@ shape_of-fixed c =
 
 pub returns : goal.returns
 returns c =
+    let c12 = c.before.before.before.before.before.before.before.before.before.before.before.before in
+    let c24 = c12.before.before.before.before.before.before.before.before.before.before.before.before in
+    let c36 = c24.before.before.before.before.before.before.before.before.before.before.before.before in
+    let c48 = c36.before.before.before.before.before.before.before.before.before.before.before.before in
+    let c60 = c48.before.before.before.before.before.before.before.before.before.before.before.before in
+    let c72 = c60.before.before.before.before.before.before.before.before.before.before.before.before in
+    let c84 = c72.before.before.before.before.before.before.before.before.before.before.before.before in
     record {
       fact_2 = (
-        trace-undone (before c.before.before.before.before.before.before.before.before.before.before.before.before.before.before.before.before.before.before.before.before.before.before.before.before.before.before.before.before.before.before.before.before.before.before.before.before.before.before.before.before.before.before.before.before.before.before.before.before.before.before.before.before.before.before.before.before.before.before.before.before.before.before.before.before.before.before.before.before.before.before.before.before.before.before.before.before.before.before.before.before.before.before.before.before.before.before.before.before.before.before.before.before) (table₂ c.before.before.before.before.before.before.before.before.before.before.before.before.before.before.before.before.before.before.before.before.before.before.before.before.before.before.before.before.before.before.before.before.before.before.before) _ (good c.before.before.before.before.before.before.before.before.before.before.before.before.before.before.before.before.before.before.before.before.before.before.before.before.before.before.before.before.before.before.before.before.before.before.before.before.before.before.before.before.before.before.before.before.before.before.before.before.before.before.before.before.before.before.before.before.before.before.before.before.before.before.before.before.before.before.before.before.before.before.before.before.before.before.before.before.before.before.before.before.before.before.before.before.before.before.before.before.before.before.before.before) (more c.before.before.before.before.before.before.before.before.before.before.before.before.before.before.before.before.before.before.before.before.before.before.before.before.before.before.before.before.before.before.before.before.before.before.before) c.drop_to.ensures,
-        told_of (before c.before.before.before.before.before.before.before.before.before.before.before.before.before.before.before.before.before.before.before.before.before.before.before.before.before.before.before.before.before.before.before.before.before.before.before.before.before.before.before.before.before.before.before.before.before.before.before.before.before.before.before.before.before.before.before.before.before.before.before.before.before.before.before.before.before.before.before.before.before.before.before.before.before.before.before.before.before.before.before.before.before.before.before.before.before.before.before.before.before.before.before.before) (ms c.before.before.before.before.before.before.before.before.before.before.before.before.before.before.before.before.before.before.before.before.before.before.before.before.before.before.before.before.before.before.before.before.before.before.before.before.before.before.before.before.before.before.before.before.before.before.before.before.before.before.before.before.before.before.before.before.before.before.before.before.before.before.before.before.before.before.before.before.before.before.before.before.before.before.before.before.before.before.before.before.before.before.before.before.before.before.before.before.before.before.before.before) (root c.before.before.before.before.before.before.before.before.before.before.before.before.before.before.before.before.before.before.before.before.before.before.before.before.before.before.before.before.before.before.before.before.before.before.before.before.before.before.before.before.before.before.before.before.before.before.before.before.before.before.before.before.before.before.before.before.before.before.before.before.before.before.before.before.before.before.before.before.before.before.before.before.before.before.before.before.before.before.before.before.before.before.before.before.before.before.before.before.before.before.before.before) c.failing_path-literals.result c.path_traced-t.result.rounds
+        trace-undone (before c84.before.before.before.before.before.before.before.before)
+            (table₂ c24.before.before.before.before.before.before.before.before.before.before.before) _
+            (good c84.before.before.before.before.before.before.before.before)
+            (more c24.before.before.before.before.before.before.before.before.before.before.before) c.drop_to.ensures,
+        told_of (before c84.before.before.before.before.before.before.before.before)
+            (ms c84.before.before.before.before.before.before.before.before)
+            (root c84.before.before.before.before.before.before.before.before) c.failing_path-literals.result c.path_traced-t.result.rounds
             c.path_traced-t.new.fixed
-            (failing c.before.before.before.before.before.before.before.before.before.before.before.before.before.before.before.before.before.before.before.before.before.before.before.before.before.before.before.before.before.before.before.before.before.before.before.before.before.before.before.before.before.before.before.before.before.before.before.before.before.before.before.before.before.before.before.before.before.before.before.before.before.before.before) (told c.before.before.before.before.before.before.before.before.before.before.before.before.before.before.before.before.before.before.before.before.before.before.before.before.before.before.before.before.before.before.before.before.before.before.before),
+            (failing c60.before.before.before) (told c24.before.before.before.before.before.before.before.before.before.before.before),
       );
       marks_after = c.failing_path-literals.ensures.marks_after;
     }

@@ -49,7 +49,10 @@ by_literals-made-requires c =
 
 pub trace-requires : goal.trace-requires
 trace-requires c =
-    let M = by-literals c.before.before.before.before.before.before.before.before.before.before.before.before.before.before.before.before.before.before.before.before.before.before.before.before.before.before in record {
+    let c12 = c.before.before.before.before.before.before.before.before.before.before.before.before in
+    let c24 = c12.before.before.before.before.before.before.before.before.before.before.before.before in
+    let c36 = c24.before.before.before.before.before.before.before.before.before.before.before.before in
+    let M = by-literals c24.before.before in record {
       fact = (
         record {
           good = M.extended.good;
@@ -58,16 +61,17 @@ trace-requires c =
             arith,
             M.extended.same_size,
             c.requires.fact.0.room,
-            memo-length c.before.before.before.before.before.before.before.before.before.before.before.before.before.before.before.before.before.before.before.before.before.before.before.before.before.before,
+            memo-length c24.before.before,
           );
         },
         c.by_literals-made.auto.words ∙ c.requires.fact_2.2
             ∙ sym (c.by_literals-made.auto.list ∙ c.requires.fact.1),
         c.by_literals-made.ensures.supports (has_room
-            c.before.before.before.before.before.before.before.before.before.before.before.before.before.before.before.before.before.before.before.before.before.before.before.before.before.before),
+            c24.before.before),
         omega (arith, c.by_literals-made.auto.list, c.requires.fact.1, c.requires.fact.2),
-        calm (before c.before.before.before.before.before.before.before.before.before.before.before.before.before.before.before.before.before.before.before.before.before.before.before.before.before.before.before.before.before.before.before.before.before.before.before.before.before.before.before.before.before.before.before.before.before.before) c.requires.fact.0.good c.args.members.now c.args.literals c.requires.fact.3 c.by_literals-made.result.full
-            (table₁ c.before.before.before.before.before.before.before.before.before.before.before.before.before.before.before.before.before.before.before.before.before.before.before.before.before.before) (list₁ c.before.before.before.before.before.before.before.before.before.before.before.before.before.before.before.before.before.before.before.before.before.before.before.before.before.before) c.by_literals-made.ensures.fact_3,
+        calm (before c36.before.before.before.before.before.before.before.before.before.before) c.requires.fact.0.good c.args.members.now
+            c.args.literals c.requires.fact.3 c.by_literals-made.result.full
+            (table₁ c24.before.before) (list₁ c24.before.before) c.by_literals-made.ensures.fact_3,
       );
       in_bounds = c.requires.in_bounds;
     }
@@ -110,9 +114,20 @@ shape_of-fixed c =
 
 pub returns : goal.returns
 returns c =
+    let c12 = c.before.before.before.before.before.before.before.before.before.before.before.before in
+    let c24 = c12.before.before.before.before.before.before.before.before.before.before.before.before in
+    let c36 = c24.before.before.before.before.before.before.before.before.before.before.before.before in
+    let c48 = c36.before.before.before.before.before.before.before.before.before.before.before.before in
+    let c60 = c48.before.before.before.before.before.before.before.before.before.before.before.before in
     let T = table_of c.trace.new.vars c.trace.new.lows c.trace.new.highs c.trace.new.heads c.trace.new.links c.trace.result.count in (
-      traced-more (before c.before.before.before.before.before.before.before.before.before.before.before.before.before.before.before.before.before.before.before.before.before.before.before.before.before.before.before.before.before.before.before.before.before.before.before.before.before.before.before.before.before.before.before.before.before.before.before.before.before.before.before.before.before.before.before.before.before.before.before.before.before.before.before.before.before) c.requires.fact.0.good c.args.members.now c.args.literals c.requires.fact.3 c.by_literals-made.result.full
-          (table₁ c.before.before.before.before.before.before.before.before.before.before.before.before.before.before.before.before.before.before.before.before.before.before.before.before.before.before.before.before.before.before.before.before.before.before.before.before.before.before.before.before.before.before.before.before.before) (list₁ c.before.before.before.before.before.before.before.before.before.before.before.before.before.before.before.before.before.before.before.before.before.before.before.before.before.before.before.before.before.before.before.before.before.before.before.before.before.before.before.before.before.before.before.before.before) c.by_literals-made.ensures.fact_3 c.trace.result T c.trace.new.fixed c.trace.ensures,
-      traced-fixed (before c.before.before.before.before.before.before.before.before.before.before.before.before.before.before.before.before.before.before.before.before.before.before.before.before.before.before.before.before.before.before.before.before.before.before.before.before.before.before.before.before.before.before.before.before.before.before.before.before.before.before.before.before.before.before.before.before.before.before.before.before.before.before.before.before.before) c.requires.fact.0.good c.args.members.now c.args.literals c.requires.fact.3 c.by_literals-made.result.full
-          (table₁ c.before.before.before.before.before.before.before.before.before.before.before.before.before.before.before.before.before.before.before.before.before.before.before.before.before.before.before.before.before.before.before.before.before.before.before.before.before.before.before.before.before.before.before.before.before) (list₁ c.before.before.before.before.before.before.before.before.before.before.before.before.before.before.before.before.before.before.before.before.before.before.before.before.before.before.before.before.before.before.before.before.before.before.before.before.before.before.before.before.before.before.before.before.before) c.by_literals-made.ensures.fact_3 c.trace.result T c.trace.new.fixed c.trace.ensures,
+      traced-more (before c60.before.before.before.before.before) c.requires.fact.0.good c.args.members.now c.args.literals
+          c.requires.fact.3 c.by_literals-made.result.full
+          (table₁ c36.before.before.before.before.before.before.before.before.before)
+          (list₁ c36.before.before.before.before.before.before.before.before.before) c.by_literals-made.ensures.fact_3 c.trace.result T
+          c.trace.new.fixed c.trace.ensures,
+      traced-fixed (before c60.before.before.before.before.before) c.requires.fact.0.good c.args.members.now c.args.literals
+          c.requires.fact.3 c.by_literals-made.result.full
+          (table₁ c36.before.before.before.before.before.before.before.before.before)
+          (list₁ c36.before.before.before.before.before.before.before.before.before) c.by_literals-made.ensures.fact_3 c.trace.result T
+          c.trace.new.fixed c.trace.ensures,
     )

@@ -83,17 +83,22 @@ redo-state-requires c =
 
 pub loop-at-smaller : goal.loop-at-smaller
 loop-at-smaller c =
+    let c12 = c.before.before.before.before.before.before.before.before.before.before.before.before in
+    let c24 = c12.before.before.before.before.before.before.before.before.before.before.before.before in
+    let c36 = c24.before.before.before.before.before.before.before.before.before.before.before.before in
     let a = c.args in
     let g = remaking-on a.variables (length a.vars.now) a.proof.now
     (again a.to a.variables (length a.vars.now) a.proof.now
-    (state_of (entry c.before.before.before.before.before.before.before.before.before.before.before.before.before.before.before.before.before.before.before.before.before.before.before.before.before.before.before.before.before.before.before.before.before.before.before.before.before.before.before.before.before.before.before.before.before.before.before) a.first) a.from a.to) a.to
-    (here c.before.before.before.before.before.before.before.before.before.before.before.before.before.before.before.before.before.before.before.before.before.before.before.before.before.before.before.before.before.before.before.before.before.before.before) c.loop-at.state c.loop-at.at c.loop-at.invariant.0
+    (state_of (entry c36.before.before.before.before.before.before.before.before.before.before.before) a.first) a.from a.to) a.to
+    (here c24.before.before.before.before.before.before.before.before.before.before.before) c.loop-at.state c.loop-at.at
+    c.loop-at.invariant.0
     c.loop-at-test.true c.record_from-r.result c.record_from-r.ensures _
     c.record_length.ensures (after
-    c.before.before.before.before.before.before.before.before.before.before.before.before.before.before.before.before.before.before.before.before.before) c.redo-state.result
+    c12.before.before.before.before.before.before.before.before.before) c.redo-state.result
     (subst (λ (k : ℕ). Remade a.variables k (here
-    c.before.before.before.before.before.before.before.before.before.before.before.before.before.before.before.before.before.before.before.before.before.before.before.before.before.before.before.before.before.before.before.before.before.before.before)
-    (after c.before.before.before.before.before.before.before.before.before.before.before.before.before.before.before.before.before.before.before.before.before) c.loop-at.state c.record_from-r.result c.redo-state.result) c.loop-at.invariant.2 c.redo-state.ensures.fact) in
+    c24.before.before.before.before.before.before.before.before.before.before.before)
+    (after c12.before.before.before.before.before.before.before.before.before) c.loop-at.state c.record_from-r.result c.redo-state.result)
+    c.loop-at.invariant.2 c.redo-state.ensures.fact) in
     omega (
       arith,
       g.0,
@@ -103,17 +108,22 @@ loop-at-smaller c =
 
 pub loop-at-preserved : goal.loop-at-preserved
 loop-at-preserved c =
+    let c12 = c.before.before.before.before.before.before.before.before.before.before.before.before in
+    let c24 = c12.before.before.before.before.before.before.before.before.before.before.before.before in
+    let c36 = c24.before.before.before.before.before.before.before.before.before.before.before.before in
     let a = c.args in
     let g = remaking-on a.variables (length a.vars.now) a.proof.now
     (again a.to a.variables (length a.vars.now) a.proof.now
-    (state_of (entry c.before.before.before.before.before.before.before.before.before.before.before.before.before.before.before.before.before.before.before.before.before.before.before.before.before.before.before.before.before.before.before.before.before.before.before.before.before.before.before.before.before.before.before.before.before.before.before) a.first) a.from a.to) a.to
-    (here c.before.before.before.before.before.before.before.before.before.before.before.before.before.before.before.before.before.before.before.before.before.before.before.before.before.before.before.before.before.before.before.before.before.before.before) c.loop-at.state c.loop-at.at c.loop-at.invariant.0
+    (state_of (entry c36.before.before.before.before.before.before.before.before.before.before.before) a.first) a.from a.to) a.to
+    (here c24.before.before.before.before.before.before.before.before.before.before.before) c.loop-at.state c.loop-at.at
+    c.loop-at.invariant.0
     c.loop-at-test.true c.record_from-r.result c.record_from-r.ensures _
     c.record_length.ensures (after
-    c.before.before.before.before.before.before.before.before.before.before.before.before.before.before.before.before.before.before.before.before.before) c.redo-state.result
+    c12.before.before.before.before.before.before.before.before.before) c.redo-state.result
     (subst (λ (k : ℕ). Remade a.variables k (here
-    c.before.before.before.before.before.before.before.before.before.before.before.before.before.before.before.before.before.before.before.before.before.before.before.before.before.before.before.before.before.before.before.before.before.before.before)
-    (after c.before.before.before.before.before.before.before.before.before.before.before.before.before.before.before.before.before.before.before.before.before) c.loop-at.state c.record_from-r.result c.redo-state.result) c.loop-at.invariant.2 c.redo-state.ensures.fact) in (
+    c24.before.before.before.before.before.before.before.before.before.before.before)
+    (after c12.before.before.before.before.before.before.before.before.before) c.loop-at.state c.record_from-r.result c.redo-state.result)
+    c.loop-at.invariant.2 c.redo-state.ensures.fact) in (
       g.2,
       c.redo-state.ensures.marks_after ∙ ap unmarked c.loop-at.invariant.2,
       c.redo-state.auto.vars ∙ c.loop-at.invariant.2,
@@ -171,12 +181,13 @@ shape_of-struck c =
 
 pub returns : goal.returns
 returns c =
+    let c12 = c.before.before.before.before.before.before.before.before.before.before.before.before in
     let a = c.args in
     record {
       fact = (
         remaking-last a.variables (length a.vars.now) a.proof.now
             (again a.to a.variables (length a.vars.now) a.proof.now
-            (state_of (entry c.before.before.before.before.before.before.before.before.before.before.before.before.before.before)
+            (state_of (entry c12.before.before)
             a.first) a.from a.to) a.to
             (here c.before.before) c.loop-at.state c.loop-at.at c.loop-at.invariant.0 c.loop-at-test.false,
         c.loop-at.invariant.0.held,

@@ -42,12 +42,14 @@ command_step-requires c =
 
 pub overflow_add-result : goal.overflow_add-result
 overflow_add-result c =
-    let after-command-step = c.before.before.before.before.before.before.before.before.before.before.before.before.before.before.before.before.before.before.before.before.before.before in
+    let c12 = c.before.before.before.before.before.before.before.before.before.before.before.before in
+    let c24 = c12.before.before.before.before.before.before.before.before.before.before.before.before in
+    let after-command-step = c12.before.before.before.before.before.before.before.before.before.before in
     let near = going-near _ _ _ _ _ _ _ _ _ _ c.loop-at.invariant.0 (lent after-command-step) _
     (going-reads _ _ _ _ _ _ _ _ _ _ c.loop-at.invariant.0 _ c.command_at-read.ensures _
     c.admitted-let_in.ensures (lent after-command-step) _ c.command_step.ensures.stepped) _ _
     c.in-Stop.is in
-    omega (arith, room c.before.before.before.before.before.before.before.before.before.before.before.before.before.before.before.before.before.before.before.before.before.before.before.before.before.before.before.before.before.before.before.before.before.before.before _ near)
+    omega (arith, room c24.before.before.before.before.before.before.before.before.before.before.before _ near)
 
 pub shape_of-vars-in-Stop : goal.shape_of-vars-in-Stop
 shape_of-vars-in-Stop c =
@@ -91,8 +93,9 @@ shape_of-struck-in-Stop c =
 
 pub returns-in-Stop : goal.returns-in-Stop
 returns-in-Stop c =
+    let c12 = c.before.before.before.before.before.before.before.before.before.before.before.before in
     let all = let after-command-step =
-    c.before.before.before.before.before.before.before.before.before.before.before.before.before.before.before.before.before.before.before.before.before.before in
+    c12.before.before.before.before.before.before.before.before.before.before in
     let G = c.loop-at.invariant.0 in
     let X = going-reads _ _ _ _ _ _ _ _ _ _ G _ c.command_at-read.ensures _ c.admitted-let_in.ensures
     (lent after-command-step) _ c.command_step.ensures.stepped in
@@ -140,8 +143,9 @@ shape_of-struck-in-Spent c =
 
 pub returns-in-Spent : goal.returns-in-Spent
 returns-in-Spent c =
+    let c12 = c.before.before.before.before.before.before.before.before.before.before.before.before in
     let all = let after-command-step =
-    c.before.before.before.before.before.before.before.before.before.before.before.before.before.before.before.before.before.before.before.before.before.before in
+    c12.before.before.before.before.before.before.before.before.before.before in
     let G = c.loop-at.invariant.0 in
     let X = going-reads _ _ _ _ _ _ _ _ _ _ G _ c.command_at-read.ensures _ c.admitted-let_in.ensures
     (lent after-command-step) _ c.command_step.ensures.stepped in
@@ -149,7 +153,8 @@ returns-in-Spent c =
 
 pub loop-at-smaller : goal.loop-at-smaller
 loop-at-smaller c =
-    let after-command-step = c.before.before.before.before.before.before.before.before.before.before.before.before.before.before.before.before.before.before.before.before.before.before in
+    let c12 = c.before.before.before.before.before.before.before.before.before.before.before.before in
+    let after-command-step = c12.before.before.before.before.before.before.before.before.before.before in
     let G = c.loop-at.invariant.0 in
     let X = going-reads _ _ _ _ _ _ _ _ _ _ G _ c.command_at-read.ensures _ c.admitted-let_in.ensures
     (lent after-command-step) _ c.command_step.ensures.stepped in
@@ -159,7 +164,8 @@ loop-at-smaller c =
 
 pub loop-at-preserved : goal.loop-at-preserved
 loop-at-preserved c =
-    let after-command-step = c.before.before.before.before.before.before.before.before.before.before.before.before.before.before.before.before.before.before.before.before.before.before in
+    let c12 = c.before.before.before.before.before.before.before.before.before.before.before.before in
+    let after-command-step = c12.before.before.before.before.before.before.before.before.before.before in
     let G = c.loop-at.invariant.0 in
     let X = going-reads _ _ _ _ _ _ _ _ _ _ G _ c.command_at-read.ensures _ c.admitted-let_in.ensures
     (lent after-command-step) _ c.command_step.ensures.stepped in

@@ -19,7 +19,9 @@ read_clauses-requires c =
 
 pub run_proof-requires : goal.run_proof-requires
 run_proof-requires c =
-    let after-read-clauses = c.before.before.before.before.before.before.before.before.before.before.before.before.before.before.before.before.before.before.before.before.before.before.before.before in (
+    let c12 = c.before.before.before.before.before.before.before.before.before.before.before.before in
+    let c24 = c12.before.before.before.before.before.before.before.before.before.before.before.before in
+    let after-read-clauses = c24 in (
       subst (Begins c.args.variables after-read-clauses.read_clauses.new.vars after-read-clauses.read_clauses.new.lows
           after-read-clauses.read_clauses.new.highs after-read-clauses.read_clauses.new.heads after-read-clauses.read_clauses.new.links
           after-read-clauses.read_clauses.new.members)
@@ -58,7 +60,9 @@ shape_of-members-in-Refused c =
 
 pub returns-in-Refused : goal.returns-in-Refused
 returns-in-Refused c =
-    let after-read-clauses = c.before.before.before.before.before.before.before.before.before.before.before.before.before.before.before.before.before.before.before.before.before.before.before.before.before.before.before.before.before.before.before.before.before in
+    let c12 = c.before.before.before.before.before.before.before.before.before.before.before.before in
+    let c24 = c12.before.before.before.before.before.before.before.before.before.before.before.before in
+    let after-read-clauses = c24.before.before.before.before.before.before.before.before.before in
     let a = c.args in
     let G = opened-good _ _ c.requires.opened in
     refused-is (length a.vars.now) c.requires.opened.least _ _ _ _ _
@@ -116,7 +120,10 @@ shape_of-struck c =
 
 pub returns-in-Begun : goal.returns-in-Begun
 returns-in-Begun c =
-    let after-read-clauses = c.before.before.before.before.before.before.before.before.before.before.before.before.before.before.before.before.before.before.before.before.before.before.before.before.before.before.before.before.before.before.before.before.before.before.before.before.before.before.before.before.before.before.before.before.before in
+    let c12 = c.before.before.before.before.before.before.before.before.before.before.before.before in
+    let c24 = c12.before.before.before.before.before.before.before.before.before.before.before.before in
+    let c36 = c24.before.before.before.before.before.before.before.before.before.before.before.before in
+    let after-read-clauses = c36.before.before.before.before.before.before.before.before.before in
     let a = c.args in
     c.run_proof.ensures ∙ begun-is a.mode a.variables a.proof.now after-read-clauses.read_clauses.new.vars
     after-read-clauses.read_clauses.new.lows after-read-clauses.read_clauses.new.highs after-read-clauses.read_clauses.new.heads

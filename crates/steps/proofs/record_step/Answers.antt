@@ -21,12 +21,13 @@ pub witness_step-requires : goal.witness_step-requires
 witness_step-requires c = c.requires.0.entries.narrow
 
 pub line_step-requires : goal.line_step-requires
-line_step-requires c = (
-  held-64 c.args.variables
-      (lent c.before.before.before.before.before.before.before.before.before.before.before.before.before.before.before.before.before.before.before.before) c.args.st c.requires.0,
-  c.requires.1,
-  c.requires.2,
-)
+line_step-requires c =
+    let c12 = c.before.before.before.before.before.before.before.before.before.before.before.before in (
+      held-64 c.args.variables
+          (lent c12.before.before.before.before.before.before.before.before) c.args.st c.requires.0,
+      c.requires.1,
+      c.requires.2,
+    )
 
 pub strike_step-requires : goal.strike_step-requires
 strike_step-requires c = omega
@@ -61,12 +62,14 @@ returns-in-NodeEntry c = record {
 }
 
 pub returns-in-Witness : goal.returns-in-Witness
-returns-in-Witness c = record {
-  fact = as-witness _ _ _ _ _ _ _ _ _ _ c.in-Witness.is
-      (c.witness_step.ensures (lent c.before.before.before.before.before.before.before.before.before.before.before.before.before)
-      c.requires.0);
-  marks_after = c.requires.1;
-}
+returns-in-Witness c =
+    let c12 = c.before.before.before.before.before.before.before.before.before.before.before.before in
+    record {
+      fact = as-witness _ _ _ _ _ _ _ _ _ _ c.in-Witness.is
+          (c.witness_step.ensures (lent c12.before)
+          c.requires.0);
+      marks_after = c.requires.1;
+    }
 
 pub shape_of-vars-in-ProofLine : goal.shape_of-vars-in-ProofLine
 shape_of-vars-in-ProofLine c = c.line_step.auto.vars
@@ -145,12 +148,14 @@ returns-in-SetEntry c =
     }
 
 pub returns-in-End : goal.returns-in-End
-returns-in-End c = record {
-  fact = as-end _ _ _ _ _ _ _ _ c.in-End.is
-      (c.end_step.ensures c.args.variables (lent
-      c.before.before.before.before.before.before.before.before.before.before.before.before.before));
-  marks_after = c.requires.1;
-}
+returns-in-End c =
+    let c12 = c.before.before.before.before.before.before.before.before.before.before.before.before in
+    record {
+      fact = as-end _ _ _ _ _ _ _ _ c.in-End.is
+          (c.end_step.ensures c.args.variables (lent
+          c12.before));
+      marks_after = c.requires.1;
+    }
 
 pub returns-in-CutShort : goal.returns-in-CutShort
 returns-in-CutShort c = record { fact = cut_short _ _ _ _ _ _ c.in-CutShort.is; marks_after = c.requires.1 }

@@ -139,8 +139,10 @@ shape_of-fixed-in-Nothing c =
 pub returns-in-Nothing : goal.returns-in-Nothing
 unfolding nodes_of
 returns-in-Nothing c =
+    let c12 = c.before.before.before.before.before.before.before.before.before.before.before.before in
     let a = c.args in
-    tracing-still (entry c.before.before.before.before.before.before.before.before.before.before.before.before.before.before.before.before.before) c.requires.fact.0.good (diagrams_of (nodes_of (entry c.before.before.before.before.before.before.before.before.before.before.before.before.before.before.before.before.before)) a.list.now) (length a.fixed.now) c.requires.fact.4
+    tracing-still (entry c12.before.before.before.before.before) c.requires.fact.0.good
+    (diagrams_of (nodes_of (entry c12.before.before.before.before.before)) a.list.now) (length a.fixed.now) c.requires.fact.4
     (here c.before.before.before.before.before.before.before) c.loop-rounds.list c.loop-rounds.memo c.loop-rounds.words c.loop-rounds.fixed
     c.loop-rounds.rounds c.loop-rounds.invariant.0
     (subst (AreFirst 64 (diagrams_of (nodes_of (here c.before.before.before.before.before.before.before)) c.loop-rounds.list))
@@ -161,12 +163,16 @@ note-requires c =
 pub round-made-requires : goal.round-made-requires
 unfolding nodes_of
 round-made-requires c =
+    let c12 = c.before.before.before.before.before.before.before.before.before.before.before.before in
+    let c24 = c12.before.before.before.before.before.before.before.before.before.before.before.before in
     let a = c.args in
     let R = tracing-ready (entry
-    c.before.before.before.before.before.before.before.before.before.before.before.before.before.before.before.before.before.before.before.before.before.before.before.before.before.before.before.before.before) c.requires.fact.0.good (diagrams_of (nodes_of (entry c.before.before.before.before.before.before.before.before.before.before.before.before.before.before.before.before.before.before.before.before.before.before.before.before.before.before.before.before.before)) a.list.now) (length a.fixed.now)
-    c.requires.fact.4 (here c.before.before.before.before.before.before.before.before.before.before.before.before.before.before.before.before.before.before.before) c.loop-rounds.list c.loop-rounds.memo c.loop-rounds.words c.loop-rounds.fixed c.loop-rounds.rounds c.loop-rounds.invariant.0 in
+    c24.before.before.before.before.before) c.requires.fact.0.good
+    (diagrams_of (nodes_of (entry c24.before.before.before.before.before)) a.list.now) (length a.fixed.now)
+    c.requires.fact.4 (here c12.before.before.before.before.before.before.before) c.loop-rounds.list c.loop-rounds.memo c.loop-rounds.words
+    c.loop-rounds.fixed c.loop-rounds.rounds c.loop-rounds.invariant.0 in
     let F = subst (AreFirst 64 (diagrams_of (nodes_of
-    (here c.before.before.before.before.before.before.before.before.before.before.before.before.before.before.before.before.before.before.before)) c.loop-rounds.list))
+    (here c12.before.before.before.before.before.before.before)) c.loop-rounds.list))
     c.in-Of.is
     c.first_of.ensures in (
       record {
@@ -225,19 +231,25 @@ shape_of-fixed-then-made c =
 pub returns-then-made : goal.returns-then-made
 unfolding nodes_of
 returns-then-made c =
+    let c12 = c.before.before.before.before.before.before.before.before.before.before.before.before in
+    let c24 = c12.before.before.before.before.before.before.before.before.before.before.before.before in
+    let c36 = c24.before.before.before.before.before.before.before.before.before.before.before.before in
     let a = c.args in
     let F = subst (AreFirst 64 (diagrams_of (nodes_of
-    (here c.before.before.before.before.before.before.before.before.before.before.before.before.before.before.before.before.before.before.before.before.before.before.before.before.before.before.before.before.before.before.before.before.before.before.before.before.before)) c.loop-rounds.list))
+    (here c36.before)) c.loop-rounds.list))
     c.in-Of.is c.first_of.ensures in
     let less : c.loop-rounds.rounds < 64 = omega (
       arith,
       c.loop-rounds.invariant.0.going.most,
       c.if-rounds-eq64.false,
     ) in
-    tracing-full (entry c.before.before.before.before.before.before.before.before.before.before.before.before.before.before.before.before.before.before.before.before.before.before.before.before.before.before.before.before.before.before.before.before.before.before.before.before.before.before.before.before.before.before.before.before.before.before.before) c.requires.fact.0.good (diagrams_of (nodes_of (entry c.before.before.before.before.before.before.before.before.before.before.before.before.before.before.before.before.before.before.before.before.before.before.before.before.before.before.before.before.before.before.before.before.before.before.before.before.before.before.before.before.before.before.before.before.before.before.before)) a.list.now) (length a.fixed.now) c.requires.fact.4
-    (here c.before.before.before.before.before.before.before.before.before.before.before.before.before.before.before.before.before.before.before.before.before.before.before.before.before.before.before.before.before.before.before.before.before.before.before.before.before) c.loop-rounds.list c.loop-rounds.memo c.loop-rounds.words c.loop-rounds.fixed c.loop-rounds.rounds c.loop-rounds.invariant.0 less
+    tracing-full (entry c36.before.before.before.before.before.before.before.before.before.before.before) c.requires.fact.0.good
+    (diagrams_of (nodes_of (entry c36.before.before.before.before.before.before.before.before.before.before.before)) a.list.now)
+    (length a.fixed.now) c.requires.fact.4
+    (here c36.before) c.loop-rounds.list c.loop-rounds.memo c.loop-rounds.words c.loop-rounds.fixed c.loop-rounds.rounds
+    c.loop-rounds.invariant.0 less
     c.in-Of.u F.0 c.round-made.result.full (after
-    c.before.before.before.before.before.before.before.before.before.before.before.before.before.before.before.before.before.before)
+    c12.before.before.before.before.before.before)
     c.round-made.new.list c.round-made.ensures.fact c.if-made.true _
 
 pub overflow_add-rounds : goal.overflow_add-rounds
@@ -261,9 +273,12 @@ loop-rounds-smaller c =
 pub loop-rounds-preserved : goal.loop-rounds-preserved
 unfolding nodes_of
 loop-rounds-preserved c =
+    let c12 = c.before.before.before.before.before.before.before.before.before.before.before.before in
+    let c24 = c12.before.before.before.before.before.before.before.before.before.before.before.before in
+    let c36 = c24.before.before.before.before.before.before.before.before.before.before.before.before in
     let a = c.args in
     let F = subst (AreFirst 64 (diagrams_of (nodes_of
-    (here c.before.before.before.before.before.before.before.before.before.before.before.before.before.before.before.before.before.before.before.before.before.before.before.before.before.before.before.before.before.before.before.before.before.before.before.before.before)) c.loop-rounds.list))
+    (here c36.before)) c.loop-rounds.list))
     c.in-Of.is c.first_of.ensures in
     let less : c.loop-rounds.rounds < 64 = omega (
       arith,
@@ -271,10 +286,13 @@ loop-rounds-preserved c =
       c.if-rounds-eq64.false,
     ) in
     let t = tracing-on (entry
-    c.before.before.before.before.before.before.before.before.before.before.before.before.before.before.before.before.before.before.before.before.before.before.before.before.before.before.before.before.before.before.before.before.before.before.before.before.before.before.before.before.before.before.before.before.before.before.before) c.requires.fact.0.good (diagrams_of (nodes_of (entry c.before.before.before.before.before.before.before.before.before.before.before.before.before.before.before.before.before.before.before.before.before.before.before.before.before.before.before.before.before.before.before.before.before.before.before.before.before.before.before.before.before.before.before.before.before.before.before)) a.list.now) (length a.fixed.now)
-    c.requires.fact.4 (here c.before.before.before.before.before.before.before.before.before.before.before.before.before.before.before.before.before.before.before.before.before.before.before.before.before.before.before.before.before.before.before.before.before.before.before.before.before) c.loop-rounds.list c.loop-rounds.memo c.loop-rounds.words c.loop-rounds.fixed c.loop-rounds.rounds c.loop-rounds.invariant.0 less
+    c36.before.before.before.before.before.before.before.before.before.before.before) c.requires.fact.0.good
+    (diagrams_of (nodes_of (entry c36.before.before.before.before.before.before.before.before.before.before.before)) a.list.now)
+    (length a.fixed.now)
+    c.requires.fact.4 (here c36.before) c.loop-rounds.list c.loop-rounds.memo c.loop-rounds.words c.loop-rounds.fixed c.loop-rounds.rounds
+    c.loop-rounds.invariant.0 less
     c.in-Of.u F.0 c.round-made.result.full (after
-    c.before.before.before.before.before.before.before.before.before.before.before.before.before.before.before.before.before.before)
+    c12.before.before.before.before.before.before)
     c.round-made.new.list c.round-made.ensures.fact c.if-made.false
     c.round-made.new.memo (c.round-made.auto.memo ∙ c.first_of.auto.memo)
     c.round-made.new.words (c.round-made.auto.words ∙ c.loop-rounds.invariant.0.worded ∙ sym c.round-made.auto.list)
@@ -282,8 +300,11 @@ loop-rounds-preserved c =
     c.note.ensures.positive_bound.0
     c.note.ensures.positive_bound.1 in (
       subst (λ (x : List ℕ). Tracing
-          (entry c.before.before.before.before.before.before.before.before.before.before.before.before.before.before.before.before.before.before.before.before.before.before.before.before.before.before.before.before.before.before.before.before.before.before.before.before.before.before.before.before.before.before.before.before.before.before.before) (diagrams_of (nodes_of (entry c.before.before.before.before.before.before.before.before.before.before.before.before.before.before.before.before.before.before.before.before.before.before.before.before.before.before.before.before.before.before.before.before.before.before.before.before.before.before.before.before.before.before.before.before.before.before.before)) a.list.now) (length a.fixed.now)
-          (after c.before.before.before.before.before.before.before.before.before.before.before.before.before.before.before.before.before.before) c.round-made.new.list c.round-made.new.memo c.round-made.new.words x (c.loop-rounds.rounds + 1))
+          (entry c36.before.before.before.before.before.before.before.before.before.before.before)
+          (diagrams_of (nodes_of (entry c36.before.before.before.before.before.before.before.before.before.before.before)) a.list.now)
+          (length a.fixed.now)
+          (after c12.before.before.before.before.before.before) c.round-made.new.list c.round-made.new.memo c.round-made.new.words x
+          (c.loop-rounds.rounds + 1))
           (sym c.note.ensures.fixed_after) t,
       c.round-made.auto.vars ∙ c.loop-rounds.invariant.1,
       c.round-made.auto.lows ∙ c.loop-rounds.invariant.2,

@@ -35,12 +35,13 @@ of_numbers-requires c =
 pub node_cause-child-requires : goal.node_cause-child-requires
 unfolding nodes_of
 node_cause-child-requires c =
+    let c12 = c.before.before.before.before.before.before.before.before.before.before.before.before in
     let H = c.requires.0 in
     let A = asks-node c.args.variables c.args.number
-    (lent c.before.before.before.before.before.before.before.before.before.before.before.before.before.before) c.args.st c.requires.0
+    (lent c12.before.before) c.args.st c.requires.0
     c.args.command c.requires.5 _
     (chosen c.before.before ∙ c.in-OutOfOrder.is) in (
-      good-readable (table_in (lent c.before.before.before.before.before.before.before.before.before.before.before.before.before.before)
+      good-readable (table_in (lent c12.before.before)
           c.args.st.count) H.entries.good,
       H.entries.inside,
       omega (arith, H.entries.few, H.entries.room),
@@ -55,14 +56,15 @@ of_numbers-requires-in-OutOfOrder c =
 pub shut_cause-word-requires : goal.shut_cause-word-requires
 unfolding entry_node nodes_of
 shut_cause-word-requires c =
+    let c12 = c.before.before.before.before.before.before.before.before.before.before.before.before in
     let H = c.requires.0 in
     let A = asks-witness c.args.variables c.args.number
-    (lent c.before.before.before.before.before.before.before.before.before.before.before.before.before.before.before) c.args.st
+    (lent c12.before.before.before) c.args.st
     c.requires.0 c.args.command c.requires.5 _
     (chosen c.before.before.before ∙ c.in-NotWitnessed.is) in record {
       readable = (
         good-readable (table_in (lent
-            c.before.before.before.before.before.before.before.before.before.before.before.before.before.before.before) c.args.st.count)
+            c12.before.before.before) c.args.st.count)
             H.entries.good,
         H.entries.inside,
         omega (arith, H.entries.few, H.entries.room),
@@ -79,9 +81,11 @@ of_numbers-requires-in-NotWitnessed c =
 
 pub line_cause-requires : goal.line_cause-requires
 line_cause-requires c =
+    let c12 = c.before.before.before.before.before.before.before.before.before.before.before.before in
     let H = c.requires.0 in (
       asks-line c.args.variables c.args.number (lent
-          c.before.before.before.before.before.before.before.before.before.before.before.before.before.before.before.before.before.before.before.before.before.before.before) c.args.st c.requires.0 c.args.command c.requires.5 _ _
+          c12.before.before.before.before.before.before.before.before.before.before.before) c.args.st c.requires.0 c.args.command
+          c.requires.5 _ _
           (chosen c.before.before.before.before.before.before.before.before.before.before.before ∙ c.in-NotShown.is),
       c.requires.1,
       c.requires.2,
@@ -91,18 +95,19 @@ line_cause-requires c =
 
 pub clause_cause-f-requires : goal.clause_cause-f-requires
 clause_cause-f-requires c =
+    let c12 = c.before.before.before.before.before.before.before.before.before.before.before.before in
     let H = c.requires.0 in
     let e = chosen c.before.before.before.before.before.before.before.before.before.before.before ∙ c.in-ClauseNotShown.is in (
       held-64 _ _ _ H,
       c.requires.1,
       c.requires.2,
       asks-pivot c.args.variables c.args.number
-          (lent c.before.before.before.before.before.before.before.before.before.before.before.before.before.before.before.before.before.before.before.before.before.before.before) c.args.st c.requires.0
+          (lent c12.before.before.before.before.before.before.before.before.before.before.before) c.args.st c.requires.0
           c.args.command c.requires.5 _ e,
       c.requires.3,
       c.requires.4,
       asks-clause c.args.variables c.args.number
-          (lent c.before.before.before.before.before.before.before.before.before.before.before.before.before.before.before.before.before.before.before.before.before.before.before) c.args.st
+          (lent c12.before.before.before.before.before.before.before.before.before.before.before) c.args.st
           c.requires.0 c.args.command c.requires.5 _ e,
     )
 
@@ -112,13 +117,14 @@ of_rounds-requires c =
 
 pub returns-in-Plain : goal.returns-in-Plain
 returns-in-Plain c =
+    let c12 = c.before.before.before.before.before.before.before.before.before.before.before.before in
     let H = c.requires.0 in record {
       fixed_after = tells_as c.args.variables c.args.number
-          (lent c.before.before.before.before.before.before.before.before.before.before.before.before.before.before.before) c.args.st
+          (lent c12.before.before.before) c.args.st
           c.requires.0 c.args.command (length c.args.fixed.now)
           c.args.fixed.now _ _ c.of_numbers.ensures.value
           (tells-plain c.args.variables c.args.number
-          (lent c.before.before.before.before.before.before.before.before.before.before.before.before.before.before.before) c.args.st
+          (lent c12.before.before.before) c.args.st
           c.requires.0 c.args.command
           (length c.args.fixed.now) c.args.fixed.now (chosen c.before.before.before ∙ c.in-Plain.is) c.requires.4);
       count_unchanged = refl;
@@ -127,13 +133,14 @@ returns-in-Plain c =
 
 pub returns-in-OutOfOrder : goal.returns-in-OutOfOrder
 returns-in-OutOfOrder c =
+    let c12 = c.before.before.before.before.before.before.before.before.before.before.before.before in
     let H = c.requires.0 in record {
       fixed_after = tells_as c.args.variables c.args.number
-          (lent c.before.before.before.before.before.before.before.before.before.before.before.before.before.before.before.before) c.args.st
+          (lent c12.before.before.before.before) c.args.st
           c.requires.0 c.args.command (length c.args.fixed.now)
           c.args.fixed.now _ _ c.of_numbers-in-OutOfOrder.ensures.value
           (tells-node c.args.variables c.args.number
-          (lent c.before.before.before.before.before.before.before.before.before.before.before.before.before.before.before.before)
+          (lent c12.before.before.before.before)
           c.args.st c.requires.0 c.args.command
           (length c.args.fixed.now) c.args.fixed.now _ (chosen c.before.before.before.before ∙ c.in-OutOfOrder.is) _
           (c.node_cause-child.ensures c.args.heads.now c.args.links.now c.args.members.now c.args.struck.now)
@@ -144,13 +151,14 @@ returns-in-OutOfOrder c =
 
 pub returns-in-NotWitnessed : goal.returns-in-NotWitnessed
 returns-in-NotWitnessed c =
+    let c12 = c.before.before.before.before.before.before.before.before.before.before.before.before in
     let H = c.requires.0 in
     record {
       fixed_after = tells_as c.args.variables c.args.number
-          (lent c.before.before.before.before.before.before.before.before.before.before.before.before.before.before.before.before.before.before.before) c.args.st c.requires.0 c.args.command (length c.args.fixed.now)
+          (lent c12.before.before.before.before.before.before.before) c.args.st c.requires.0 c.args.command (length c.args.fixed.now)
           c.args.fixed.now _ _ c.of_numbers-in-NotWitnessed.ensures.value
           (tells-witness c.args.variables c.args.number
-          (lent c.before.before.before.before.before.before.before.before.before.before.before.before.before.before.before.before.before.before.before) c.args.st c.requires.0 c.args.command
+          (lent c12.before.before.before.before.before.before.before) c.args.st c.requires.0 c.args.command
           (length c.args.fixed.now) c.args.fixed.now _ (chosen c.before.before.before.before.before.before.before ∙ c.in-NotWitnessed.is)
           c.shut_cause-word.result
           c.of_numbers-in-NotWitnessed.ensures.word_bound
@@ -198,12 +206,15 @@ shape_of-fixed-in-NotShown c =
 
 pub returns-in-NotShown : goal.returns-in-NotShown
 returns-in-NotShown c =
+    let c12 = c.before.before.before.before.before.before.before.before.before.before.before.before in
+    let c24 = c12.before.before.before.before.before.before.before.before.before.before.before.before in
+    let c36 = c24.before.before.before.before.before.before.before.before.before.before.before.before in
     record {
       fixed_after = (
           tells-line c.args.variables c.args.number
-          (lent c.before.before.before.before.before.before.before.before.before.before.before.before.before.before.before.before.before.before.before.before.before.before.before.before.before.before.before.before.before.before.before.before.before.before.before.before.before.before.before.before.before.before) c.args.st c.requires.0 c.args.command (length c.args.fixed.now)
+          (lent c36.before.before.before.before.before.before) c.args.st c.requires.0 c.args.command (length c.args.fixed.now)
           c.line_cause.new.fixed _ _
-          (chosen c.before.before.before.before.before.before.before.before.before.before.before.before.before.before.before.before.before.before.before.before.before.before.before.before.before.before.before.before.before.before ∙ c.in-NotShown.is) c.line_cause.result c.line_cause.ensures.fixed_after
+          (chosen c24.before.before.before.before.before.before ∙ c.in-NotShown.is) c.line_cause.result c.line_cause.ensures.fixed_after
           );
       count_unchanged = c.line_cause.ensures.count_unchanged;
       marks_after = c.line_cause.ensures.marks_after;
@@ -247,15 +258,19 @@ shape_of-fixed-in-ClauseNotShown c =
 
 pub returns-in-ClauseNotShown : goal.returns-in-ClauseNotShown
 returns-in-ClauseNotShown c =
+    let c12 = c.before.before.before.before.before.before.before.before.before.before.before.before in
+    let c24 = c12.before.before.before.before.before.before.before.before.before.before.before.before in
+    let c36 = c24.before.before.before.before.before.before.before.before.before.before.before.before in
     record {
       fixed_after = (
           tells_as c.args.variables c.args.number
-          (lent c.before.before.before.before.before.before.before.before.before.before.before.before.before.before.before.before.before.before.before.before.before.before.before.before.before.before.before.before.before.before.before.before.before.before.before.before.before.before.before.before.before.before.before) c.args.st c.requires.0 c.args.command (length c.args.fixed.now)
+          (lent c36.before.before.before.before.before.before.before) c.args.st c.requires.0 c.args.command (length c.args.fixed.now)
           c.clause_cause-f.new.fixed _ _ c.of_rounds.ensures
           (tells-clause c.args.variables c.args.number
-          (lent c.before.before.before.before.before.before.before.before.before.before.before.before.before.before.before.before.before.before.before.before.before.before.before.before.before.before.before.before.before.before.before.before.before.before.before.before.before.before.before.before.before.before.before) c.args.st c.requires.0 c.args.command
+          (lent c36.before.before.before.before.before.before.before) c.args.st c.requires.0 c.args.command
           (length c.args.fixed.now) c.clause_cause-f.new.fixed _
-          (chosen c.before.before.before.before.before.before.before.before.before.before.before.before.before.before.before.before.before.before.before.before.before.before.before.before.before.before.before.before.before.before.before ∙ c.in-ClauseNotShown.is) c.clause_cause-f.result c.clause_cause-f.ensures.st_value)
+          (chosen c24.before.before.before.before.before.before.before ∙ c.in-ClauseNotShown.is) c.clause_cause-f.result
+          c.clause_cause-f.ensures.st_value)
           );
       count_unchanged = c.clause_cause-f.ensures.count_unchanged;
       marks_after = c.clause_cause-f.ensures.marks_after;

@@ -56,15 +56,20 @@ entry_node-g-requires c =
 
 pub rup_cause-rounds-requires : goal.rup_cause-rounds-requires
 rup_cause-rounds-requires c =
-    let H = held c.before.before.before.before.before.before.before.before.before.before.before.before.before.before.before.before.before.before.before.before.before.before in
-    let R = refused_as c.before.before.before.before.before.before.before.before.before.before.before.before.before.before.before.before.before.before.before.before.before.before Rup c.in-Rup.is in record {
+    let c12 = c.before.before.before.before.before.before.before.before.before.before.before.before in
+    let H = held c12.before.before.before.before.before.before.before.before.before.before in
+    let R = refused_as c12.before.before.before.before.before.before.before.before.before.before Rup c.in-Rup.is in record {
       fact = (
-        ready (lent c.before.before.before.before.before.before.before.before.before.before.before.before.before.before.before.before.before.before.before.before.before.before) c.args.st c.args.root.0 (g c.before.before.before.before.before.before.before.before.before.before) (is c.before.before.before.before.before.before.before.before.before.before) Rup R c.args.memo.now c.requires.2,
+        ready (lent c12.before.before.before.before.before.before.before.before.before.before) c.args.st c.args.root.0
+            (g c.before.before.before.before.before.before.before.before.before.before)
+            (is c.before.before.before.before.before.before.before.before.before.before) Rup R c.args.memo.now c.requires.2,
         omega (arith, H.many, H.lines),
         H.room,
         H.entries.room,
         H.marked,
-        fails (lent c.before.before.before.before.before.before.before.before.before.before.before.before.before.before.before.before.before.before.before.before.before.before) c.args.st c.args.root.0 (g c.before.before.before.before.before.before.before.before.before.before) (is c.before.before.before.before.before.before.before.before.before.before) Rup R,
+        fails (lent c12.before.before.before.before.before.before.before.before.before.before) c.args.st c.args.root.0
+            (g c.before.before.before.before.before.before.before.before.before.before)
+            (is c.before.before.before.before.before.before.before.before.before.before) Rup R,
       );
       in_bounds = (c.requires.3, c.requires.4);
     }
@@ -75,16 +80,20 @@ of_rounds-requires c =
 
 pub pr_cause-t-requires : goal.pr_cause-t-requires
 pr_cause-t-requires c =
-    let H = held c.before.before.before.before.before.before.before.before.before.before.before.before.before.before.before.before.before.before.before.before.before.before.before.before in
-    let R = refused_as c.before.before.before.before.before.before.before.before.before.before.before.before.before.before.before.before.before.before.before.before.before.before.before.before Pr c.in-Pr.is in record {
+    let c12 = c.before.before.before.before.before.before.before.before.before.before.before.before in
+    let c24 = c12.before.before.before.before.before.before.before.before.before.before.before.before in
+    let H = held c24 in
+    let R = refused_as c24 Pr c.in-Pr.is in record {
       fact = (
-        ready (lent c.before.before.before.before.before.before.before.before.before.before.before.before.before.before.before.before.before.before.before.before.before.before.before.before) c.args.st c.args.root.0 (g c.before.before.before.before.before.before.before.before.before.before.before.before) (is c.before.before.before.before.before.before.before.before.before.before.before.before) Pr R c.args.memo.now c.requires.2,
+        ready (lent c24) c.args.st c.args.root.0 (g c.before.before.before.before.before.before.before.before.before.before.before.before)
+            (is c.before.before.before.before.before.before.before.before.before.before.before.before) Pr R c.args.memo.now c.requires.2,
         c.requires.1,
         omega (arith, H.many, H.lines),
         H.room,
         H.entries.room,
         H.marked,
-        fails (lent c.before.before.before.before.before.before.before.before.before.before.before.before.before.before.before.before.before.before.before.before.before.before.before.before) c.args.st c.args.root.0 (g c.before.before.before.before.before.before.before.before.before.before.before.before) (is c.before.before.before.before.before.before.before.before.before.before.before.before) Pr R,
+        fails (lent c24) c.args.st c.args.root.0 (g c.before.before.before.before.before.before.before.before.before.before.before.before)
+            (is c.before.before.before.before.before.before.before.before.before.before.before.before) Pr R,
       );
       in_bounds = (c.requires.3, c.requires.4);
     }
@@ -95,17 +104,24 @@ of_rounds-requires-in-Pr c =
 
 pub path_cause-rounds-requires : goal.path_cause-rounds-requires
 path_cause-rounds-requires c =
-    let H = held c.before.before.before.before.before.before.before.before.before.before.before.before.before.before.before.before.before.before.before.before.before.before.before in
-    let R = refused_as c.before.before.before.before.before.before.before.before.before.before.before.before.before.before.before.before.before.before.before.before.before.before.before Path c.in-Path.is in record {
+    let c12 = c.before.before.before.before.before.before.before.before.before.before.before.before in
+    let H = held c12.before.before.before.before.before.before.before.before.before.before.before in
+    let R = refused_as c12.before.before.before.before.before.before.before.before.before.before.before Path c.in-Path.is in record {
       fact = (
-        ready (lent c.before.before.before.before.before.before.before.before.before.before.before.before.before.before.before.before.before.before.before.before.before.before.before) c.args.st c.args.root.0 (g c.before.before.before.before.before.before.before.before.before.before.before) (is c.before.before.before.before.before.before.before.before.before.before.before) Path R c.args.memo.now c.requires.2,
+        ready (lent c12.before.before.before.before.before.before.before.before.before.before.before) c.args.st c.args.root.0
+            (g c.before.before.before.before.before.before.before.before.before.before.before)
+            (is c.before.before.before.before.before.before.before.before.before.before.before) Path R c.args.memo.now c.requires.2,
         c.requires.1,
         omega (arith, H.many, H.lines),
         H.room,
         H.entries.room,
         H.marked,
-        paths-few (lent c.before.before.before.before.before.before.before.before.before.before.before.before.before.before.before.before.before.before.before.before.before.before.before) c.args.st c.args.root.0 (g c.before.before.before.before.before.before.before.before.before.before.before) (is c.before.before.before.before.before.before.before.before.before.before.before) R,
-        fails (lent c.before.before.before.before.before.before.before.before.before.before.before.before.before.before.before.before.before.before.before.before.before.before.before) c.args.st c.args.root.0 (g c.before.before.before.before.before.before.before.before.before.before.before) (is c.before.before.before.before.before.before.before.before.before.before.before) Path R,
+        paths-few (lent c12.before.before.before.before.before.before.before.before.before.before.before) c.args.st c.args.root.0
+            (g c.before.before.before.before.before.before.before.before.before.before.before)
+            (is c.before.before.before.before.before.before.before.before.before.before.before) R,
+        fails (lent c12.before.before.before.before.before.before.before.before.before.before.before) c.args.st c.args.root.0
+            (g c.before.before.before.before.before.before.before.before.before.before.before)
+            (is c.before.before.before.before.before.before.before.before.before.before.before) Path R,
       );
       in_bounds = (c.requires.3, c.requires.4);
     }
@@ -148,12 +164,16 @@ shape_of-fixed-in-Rup c =
 
 pub returns-in-Rup : goal.returns-in-Rup
 returns-in-Rup c =
+    let c12 = c.before.before.before.before.before.before.before.before.before.before.before.before in
+    let c24 = c12.before.before.before.before.before.before.before.before.before.before.before.before in
+    let c36 = c24.before.before.before.before.before.before.before.before.before.before.before.before in
     let words = c.rup_cause-rounds.new.fixed in record {
       fixed_after = subst (Says
-          c.before.before.before.before.before.before.before.before.before.before.before.before.before.before.before.before.before.before.before.before.before.before.before.before.before.before.before.before words) (sym c.of_rounds.ensures)
-          (tells_as (lent c.before.before.before.before.before.before.before.before.before.before.before.before.before.before.before.before.before.before.before.before.before.before.before.before.before.before.before.before.before.before.before.before.before.before.before.before.before.before.before.before) c.args.st c.args.root.0 (length c.args.fixed.now) words _ c.args.rule Rup
+          c24.before.before.before.before words) (sym c.of_rounds.ensures)
+          (tells_as (lent c36.before.before.before.before) c.args.st c.args.root.0 (length c.args.fixed.now) words _ c.args.rule Rup
           c.in-Rup.is
-          (rup-tells (lent c.before.before.before.before.before.before.before.before.before.before.before.before.before.before.before.before.before.before.before.before.before.before.before.before.before.before.before.before.before.before.before.before.before.before.before.before.before.before.before.before) c.args.st c.args.root.0 (g c.before.before.before.before.before.before.before.before.before.before.before.before.before.before.before.before.before.before.before.before.before.before.before.before.before.before.before.before) (is c.before.before.before.before.before.before.before.before.before.before.before.before.before.before.before.before.before.before.before.before.before.before.before.before.before.before.before.before) (length c.args.fixed.now) words
+          (rup-tells (lent c36.before.before.before.before) c.args.st c.args.root.0 (g c24.before.before.before.before)
+          (is c24.before.before.before.before) (length c.args.fixed.now) words
           c.rup_cause-rounds.auto.fixed c.rup_cause-rounds.result c.rup_cause-rounds.ensures.1));
       count_unchanged = c.rup_cause-rounds.ensures.0;
       marks_after = c.requires.1;
@@ -197,12 +217,18 @@ shape_of-fixed-in-Pr c =
 
 pub returns-in-Pr : goal.returns-in-Pr
 returns-in-Pr c =
+    let c12 = c.before.before.before.before.before.before.before.before.before.before.before.before in
+    let c24 = c12.before.before.before.before.before.before.before.before.before.before.before.before in
+    let c36 = c24.before.before.before.before.before.before.before.before.before.before.before.before in
     let words = c.pr_cause-t.new.fixed in record {
       fixed_after = subst (Says
-          c.before.before.before.before.before.before.before.before.before.before.before.before.before.before.before.before.before.before.before.before.before.before.before.before.before.before.before.before.before.before.before.before words) (sym c.of_rounds-in-Pr.ensures)
-          (tells_as (lent c.before.before.before.before.before.before.before.before.before.before.before.before.before.before.before.before.before.before.before.before.before.before.before.before.before.before.before.before.before.before.before.before.before.before.before.before.before.before.before.before.before.before.before.before) c.args.st c.args.root.0 (length c.args.fixed.now) words _ c.args.rule Pr
+          c24.before.before.before.before.before.before.before.before words) (sym c.of_rounds-in-Pr.ensures)
+          (tells_as (lent c36.before.before.before.before.before.before.before.before) c.args.st c.args.root.0 (length c.args.fixed.now)
+          words _ c.args.rule Pr
           c.in-Pr.is
-          (pr-tells (lent c.before.before.before.before.before.before.before.before.before.before.before.before.before.before.before.before.before.before.before.before.before.before.before.before.before.before.before.before.before.before.before.before.before.before.before.before.before.before.before.before.before.before.before.before) c.args.st c.args.root.0 (g c.before.before.before.before.before.before.before.before.before.before.before.before.before.before.before.before.before.before.before.before.before.before.before.before.before.before.before.before.before.before.before.before) (is c.before.before.before.before.before.before.before.before.before.before.before.before.before.before.before.before.before.before.before.before.before.before.before.before.before.before.before.before.before.before.before.before) (length c.args.fixed.now) words
+          (pr-tells (lent c36.before.before.before.before.before.before.before.before) c.args.st c.args.root.0
+          (g c24.before.before.before.before.before.before.before.before)
+          (is c24.before.before.before.before.before.before.before.before) (length c.args.fixed.now) words
           c.pr_cause-t.auto.fixed c.pr_cause-t.result.member c.pr_cause-t.result.rounds c.pr_cause-t.ensures.fact_2.1));
       count_unchanged = c.pr_cause-t.ensures.fact_2.0;
       marks_after = c.pr_cause-t.ensures.marks_after;
@@ -246,12 +272,18 @@ shape_of-fixed-in-Path c =
 
 pub returns-in-Path : goal.returns-in-Path
 returns-in-Path c =
+    let c12 = c.before.before.before.before.before.before.before.before.before.before.before.before in
+    let c24 = c12.before.before.before.before.before.before.before.before.before.before.before.before in
+    let c36 = c24.before.before.before.before.before.before.before.before.before.before.before.before in
     let words = c.path_cause-rounds.new.fixed in record {
       fixed_after = subst (Says
-          c.before.before.before.before.before.before.before.before.before.before.before.before.before.before.before.before.before.before.before.before.before.before.before.before.before.before.before.before.before.before.before words) (sym c.of_rounds-in-Path.ensures)
-          (tells_as (lent c.before.before.before.before.before.before.before.before.before.before.before.before.before.before.before.before.before.before.before.before.before.before.before.before.before.before.before.before.before.before.before.before.before.before.before.before.before.before.before.before.before.before.before) c.args.st c.args.root.0 (length c.args.fixed.now) words _ c.args.rule Path
+          c24.before.before.before.before.before.before.before words) (sym c.of_rounds-in-Path.ensures)
+          (tells_as (lent c36.before.before.before.before.before.before.before) c.args.st c.args.root.0 (length c.args.fixed.now) words _
+          c.args.rule Path
           c.in-Path.is
-          (path-tells (lent c.before.before.before.before.before.before.before.before.before.before.before.before.before.before.before.before.before.before.before.before.before.before.before.before.before.before.before.before.before.before.before.before.before.before.before.before.before.before.before.before.before.before.before) c.args.st c.args.root.0 (g c.before.before.before.before.before.before.before.before.before.before.before.before.before.before.before.before.before.before.before.before.before.before.before.before.before.before.before.before.before.before.before) (is c.before.before.before.before.before.before.before.before.before.before.before.before.before.before.before.before.before.before.before.before.before.before.before.before.before.before.before.before.before.before.before) (length c.args.fixed.now) words
+          (path-tells (lent c36.before.before.before.before.before.before.before) c.args.st c.args.root.0
+          (g c24.before.before.before.before.before.before.before) (is c24.before.before.before.before.before.before.before)
+          (length c.args.fixed.now) words
           c.path_cause-rounds.auto.fixed c.path_cause-rounds.result c.path_cause-rounds.ensures.fact_2.1));
       count_unchanged = c.path_cause-rounds.ensures.fact_2.0;
       marks_after = c.path_cause-rounds.ensures.marks_after;

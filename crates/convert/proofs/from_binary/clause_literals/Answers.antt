@@ -42,9 +42,10 @@ loop-at-init c = (omega arith, refl, λ o r W. W)
 
 pub returns-in-Closing : goal.returns-in-Closing
 returns-in-Closing c =
+    let c12 = c.before.before.before.before.before.before.before.before.before.before.before.before in
     leads-closed text_literals
-    (before c.before.before.before.before.before.before.before.before.before.before.before.before.before.before.before)
-    (whole c.before.before.before.before.before.before.before.before.before.before.before.before.before.before.before) _ _
+    (before c12.before.before.before)
+    (whole c12.before.before.before) _ _
     c.loop-at.invariant.2 _ _ _ _
     (binary-closing _ _ _ c.loop-at-test.true _ c.groups_at-groups.ensures
     c.in-Closing.is)

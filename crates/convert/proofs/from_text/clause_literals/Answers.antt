@@ -95,19 +95,20 @@ loop-at-smaller c =
     )
 
 pub loop-at-preserved : goal.loop-at-preserved
-loop-at-preserved c = (
-  c.skip_between-at.ensures.lower_bound.1,
-  long_as _ _ _ c.put_groups-bytes.ensures ∙ c.loop-at.invariant.1,
-  leads-literal binary_literals (before c.before.before.before.before.before.before.before.before.before.before.before.before.before)
-      (whole c.before.before.before.before.before.before.before.before.before.before.before.before.before) _ _
-      c.loop-at.invariant.2 (made c.before.before) (bytes (made c.before.before))
-      (text_rest c.args.text.now c.args.first c.skip_between-at.result)
-      (λ ls. refl)
-      ((literal c.before.before.before.before.before.before.before _ (end_is c.before.before)).goes
-      ∙ ap (λ (p : ℕ). literal_then (made c.before.before)
-      (text_rest c.args.text.now c.args.first p))
-      (sym c.skip_between-at.ensures.value)) _ c.put_groups-bytes.ensures,
-)
+loop-at-preserved c =
+    let c12 = c.before.before.before.before.before.before.before.before.before.before.before.before in (
+      c.skip_between-at.ensures.lower_bound.1,
+      long_as _ _ _ c.put_groups-bytes.ensures ∙ c.loop-at.invariant.1,
+      leads-literal binary_literals (before c12.before)
+          (whole c12.before) _ _
+          c.loop-at.invariant.2 (made c.before.before) (bytes (made c.before.before))
+          (text_rest c.args.text.now c.args.first c.skip_between-at.result)
+          (λ ls. refl)
+          ((literal c.before.before.before.before.before.before.before _ (end_is c.before.before)).goes
+          ∙ ap (λ (p : ℕ). literal_then (made c.before.before)
+          (text_rest c.args.text.now c.args.first p))
+          (sym c.skip_between-at.ensures.value)) _ c.put_groups-bytes.ensures,
+    )
 
 pub returns : goal.returns
 returns c = leads-refused binary_literals (before c.before.before.before.before.before) (whole c.before.before.before.before.before) _ _

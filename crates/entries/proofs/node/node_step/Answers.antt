@@ -64,11 +64,12 @@ module _ (c : lts.After-put tie.the-claims reads.Pre reads.Post) (ms ss : List �
       (state c.before.before.before.before.before.before.before.before.before.before.before.before.before.before ms ss)
       c.args.b.high.0))
   made =
+      let c12 = c.before.before.before.before.before.before.before.before.before.before.before.before in
       c.put-p.ensures
       ∙ ap₂ (λ (l h : ℕ). written (size (before
-      c.before.before.before.before.before.before.before.before.before.before.before.before.before.before ms ss))
-      (put (size (before c.before.before.before.before.before.before.before.before.before.before.before.before.before.before ms ss))
-      (nodes_of (before c.before.before.before.before.before.before.before.before.before.before.before.before.before.before ms ss))
+      c12.before.before ms ss))
+      (put (size (before c12.before.before ms ss))
+      (nodes_of (before c12.before.before ms ss))
       c.args.b.variable l h))
       (tested c.before.before.before.before.before.before ms ss).1 (tested c.before.before.before.before.before.before ms ss).2
 
@@ -102,21 +103,28 @@ pub shape_of-scratch-then-p : goal.shape_of-scratch-then-p
 shape_of-scratch-then-p c = refl
 
 pub returns-then-p : goal.returns-then-p
-returns-then-p c = λ ms ss H. node-full _ (lent
-    c.before.before.before.before.before.before.before.before.before.before.before.before.before.before.before.before.before.before.before.before.before.before.before.before.before.before.before ms ss) c.args.st c.args.b H
-    (tested c.before.before.before.before.before.before.before.before.before.before.before.before.before.before.before.before.before.before.before ms ss).0 (outcome c.before.before.before.before.before.before.before.before.before.before.before.before.before ms ss) (made c.before.before.before.before.before.before.before.before.before.before.before.before.before ms ss) _
+returns-then-p c =
+    let c12 = c.before.before.before.before.before.before.before.before.before.before.before.before in
+    let c24 = c12.before.before.before.before.before.before.before.before.before.before.before.before in
+    λ ms ss H. node-full _ (lent
+    c24.before.before.before ms ss) c.args.st c.args.b H
+    (tested c12.before.before.before.before.before.before.before ms ss).0 (outcome c12.before ms ss) (made c12.before ms ss) _
     c.greater-peak.ensures c.if-p.true
 
 pub offset_bounds-scratch-entries : goal.offset_bounds-scratch-entries
-offset_bounds-scratch-entries c = omega (
-  arith,
-  few
-      c.before.before.before.before.before.before.before.before.before.before.before.before.before.before.before.before.before.before.before.before [] [],
-)
+offset_bounds-scratch-entries c =
+    let c12 = c.before.before.before.before.before.before.before.before.before.before.before.before in
+    omega (
+      arith,
+      few
+          c12.before.before.before.before.before.before.before.before [] [],
+    )
 
 pub bounds-scratch-entries : goal.bounds-scratch-entries
-bounds-scratch-entries c = omega
-    (arith, few c.before.before.before.before.before.before.before.before.before.before.before.before.before.before.before.before.before.before.before.before [] [], c.requires.room)
+bounds-scratch-entries c =
+    let c12 = c.before.before.before.before.before.before.before.before.before.before.before.before in
+    omega
+    (arith, few c12.before.before.before.before.before.before.before.before [] [], c.requires.room)
 
 pub with_entry-requires : goal.with_entry-requires
 with_entry-requires c = c.requires.few
@@ -160,11 +168,15 @@ shape_of-scratch-else-p c = length-set c.args.scratch.now c.args.st.entries
     c.put-p.result.node.0
 
 pub returns-else-p : goal.returns-else-p
-returns-else-p c = λ ms ss H. node_made _ (lent
-    c.before.before.before.before.before.before.before.before.before.before.before.before.before.before.before.before.before.before.before.before.before.before.before.before.before.before.before.before.before ms ss) c.args.st c.args.b H
-    (tested c.before.before.before.before.before.before.before.before.before.before.before.before.before.before.before.before.before.before.before.before.before ms ss).0 (outcome c.before.before.before.before.before.before.before.before.before.before.before.before.before.before.before ms ss) (made c.before.before.before.before.before.before.before.before.before.before.before.before.before.before.before ms ss)
+returns-else-p c =
+    let c12 = c.before.before.before.before.before.before.before.before.before.before.before.before in
+    let c24 = c12.before.before.before.before.before.before.before.before.before.before.before.before in
+    λ ms ss H. node_made _ (lent
+    c24.before.before.before.before.before ms ss) c.args.st c.args.b H
+    (tested c12.before.before.before.before.before.before.before.before.before ms ss).0 (outcome c12.before.before.before ms ss)
+    (made c12.before.before.before ms ss)
     c.if-p.false c.with_entry.result
     (c.with_entry.ensures ∙ ap (state_with_entry c.args.st
-    (outcome c.before.before.before.before.before.before.before.before.before.before.before.before.before.before.before ms
+    (outcome c12.before.before.before ms
     ss).table.count)
     c.greater-peak.ensures)

@@ -41,15 +41,19 @@ module _ (c : lts.Else3 tie.the-claims reads.Pre reads.Post) (ds ks ms ss : List
 module _ (c : lts.Else5 tie.the-claims reads.Pre reads.Post) (ds ks ms ss : List ℕ) where
   low : is_entry (state c.before.before.before.before.before.before.before.before.before.before.before.before.before ds ks ms ss)
       c.args.b.low.0 ≡ true
-  low = entry-told (lent c.before.before.before.before.before.before.before.before.before.before.before.before.before ds ks ms ss) c.args.st
-      (room c.before.before.before.before.before.before.before.before.before.before.before.before.before ds ks ms ss) _ _ _
+  low =
+      let c12 = c.before.before.before.before.before.before.before.before.before.before.before.before in
+      entry-told (lent c12.before ds ks ms ss) c.args.st
+      (room c12.before ds ks ms ss) _ _ _
       c.is_entry.ensures
       (not-false _ c.if-not-is_entry.false-raw)
 
   high : is_entry (state c.before.before.before.before.before.before.before.before.before.before.before.before.before ds ks ms ss)
       c.args.b.high.0 ≡ true
-  high = entry-told (lent c.before.before.before.before.before.before.before.before.before.before.before.before.before ds ks ms ss)
-      c.args.st (room c.before.before.before.before.before.before.before.before.before.before.before.before.before ds ks ms ss) _ _ _
+  high =
+      let c12 = c.before.before.before.before.before.before.before.before.before.before.before.before in
+      entry-told (lent c12.before ds ks ms ss)
+      c.args.st (room c12.before ds ks ms ss) _ _ _
       c.is_entry-2.ensures
       (not-false _ c.if-not-is_entry-2.false-raw)
 
@@ -114,72 +118,86 @@ pub is_entry-requires-2 : goal.is_entry-requires-2
 is_entry-requires-2 c = c.requires.2
 
 pub returns-then-not-is_entry-2 : goal.returns-then-not-is_entry-2
-returns-then-not-is_entry-2 c = λ ds ks ms ss. (
-  node-13-high _ _ _ (few c.before.before.before.before.before.before.before ds ks ms ss)
-      (variable c.before.before.before.before.before.before.before ds ks ms ss)
-      (entry-told (lent c.before.before.before.before.before.before.before.before.before.before.before.before.before.before ds ks ms ss)
-      c.args.st (room c.before.before.before.before.before.before.before.before.before.before.before.before.before.before ds ks ms ss) _
-      _ _ c.is_entry-2.ensures
-      (not-true _ c.if-not-is_entry-2.true-raw)),
-  λ e. omega (arith, e),
-)
+returns-then-not-is_entry-2 c =
+    let c12 = c.before.before.before.before.before.before.before.before.before.before.before.before in
+    λ ds ks ms ss. (
+      node-13-high _ _ _ (few c.before.before.before.before.before.before.before ds ks ms ss)
+          (variable c.before.before.before.before.before.before.before ds ks ms ss)
+          (entry-told (lent c12.before.before ds ks ms ss)
+          c.args.st (room c12.before.before ds ks ms ss) _
+          _ _ c.is_entry-2.ensures
+          (not-true _ c.if-not-is_entry-2.true-raw)),
+      λ e. omega (arith, e),
+    )
 
 pub entry_node-low-requires : goal.entry_node-low-requires
-entry_node-low-requires c = (
-  room c.before.before.before.before.before.before.before.before.before.before.before.before.before.before.before
-      [] [] [] [],
-  low-there c.before.before [] [] [] [],
-)
+entry_node-low-requires c =
+    let c12 = c.before.before.before.before.before.before.before.before.before.before.before.before in (
+      room c12.before.before.before
+          [] [] [] [],
+      low-there c.before.before [] [] [] [],
+    )
 
 pub entry_node-high-requires : goal.entry_node-high-requires
-entry_node-high-requires c = (
-  room c.before.before.before.before.before.before.before.before.before.before.before.before.before.before.before.before.before [] [] []
-      [],
-  high-there c.before.before.before.before [] [] [] [],
-)
+entry_node-high-requires c =
+    let c12 = c.before.before.before.before.before.before.before.before.before.before.before.before in (
+      room c12.before.before.before.before.before [] [] []
+          [],
+      high-there c.before.before.before.before [] [] [] [],
+    )
 
 pub stands_above-requires : goal.stands_above-requires
 stands_above-requires c = (c.requires.0.lows, c.requires.0.highs, omega (arith, low-inside c.before, c.requires.0.within))
 
 pub returns-then-not-stands_above : goal.returns-then-not-stands_above
-returns-then-not-stands_above c = λ ds ks ms ss. (
-  node-14-low _ _ _ (few c.before.before.before.before.before.before.before.before.before.before.before.before.before ds ks ms ss)
-      (variable c.before.before.before.before.before.before.before.before.before.before.before.before.before ds ks ms ss)
-      (low c.before.before.before.before.before.before.before ds ks ms ss)
-      (high c.before.before.before.before.before.before.before ds ks ms ss)
-      (above-is (lent c.before.before.before.before.before.before.before.before.before.before.before.before.before.before.before.before.before.before.before.before ds ks ms ss) c.args.st _ _ c.entry_node-low.ensures _ (low-inside c.before.before.before) _ _
-      c.stands_above.ensures (not-true _ c.if-not-stands_above.true-raw)),
-  λ e. omega (arith, e),
-)
+returns-then-not-stands_above c =
+    let c12 = c.before.before.before.before.before.before.before.before.before.before.before.before in
+    λ ds ks ms ss. (
+      node-14-low _ _ _ (few c12.before ds ks ms ss)
+          (variable c12.before ds ks ms ss)
+          (low c.before.before.before.before.before.before.before ds ks ms ss)
+          (high c.before.before.before.before.before.before.before ds ks ms ss)
+          (above-is (lent c12.before.before.before.before.before.before.before.before ds ks ms ss) c.args.st _ _ c.entry_node-low.ensures _
+          (low-inside c.before.before.before) _ _
+          c.stands_above.ensures (not-true _ c.if-not-stands_above.true-raw)),
+      λ e. omega (arith, e),
+    )
 
 pub stands_above-requires-2 : goal.stands_above-requires-2
 stands_above-requires-2 c = (c.requires.0.lows, c.requires.0.highs, omega (arith, high-inside c.before.before.before, c.requires.0.within))
 
 pub returns-then-not-stands_above-2 : goal.returns-then-not-stands_above-2
-returns-then-not-stands_above-2 c = λ ds ks ms ss. (
-  node-14-high _ _ _ (few c.before.before.before.before.before.before.before.before.before.before.before.before.before.before.before ds ks
-      ms ss) (variable c.before.before.before.before.before.before.before.before.before.before.before.before.before.before.before ds ks ms
-      ss)
-      (low c.before.before.before.before.before.before.before.before.before ds ks ms ss)
-      (high c.before.before.before.before.before.before.before.before.before ds ks ms ss)
-      (above-is (lent c.before.before.before.before.before.before.before.before.before.before.before.before.before.before.before.before.before.before.before.before.before.before ds ks ms ss) c.args.st _ _ c.entry_node-high.ensures _
-      (high-inside c.before.before.before.before.before) _ _ c.stands_above-2.ensures (not-true _ c.if-not-stands_above-2.true-raw)),
-  λ e. omega (arith, e),
-)
+returns-then-not-stands_above-2 c =
+    let c12 = c.before.before.before.before.before.before.before.before.before.before.before.before in
+    λ ds ks ms ss. (
+      node-14-high _ _ _ (few c12.before.before.before ds ks
+          ms ss) (variable c12.before.before.before ds ks ms
+          ss)
+          (low c.before.before.before.before.before.before.before.before.before ds ks ms ss)
+          (high c.before.before.before.before.before.before.before.before.before ds ks ms ss)
+          (above-is (lent c12.before.before.before.before.before.before.before.before.before.before ds ks ms ss) c.args.st _ _
+          c.entry_node-high.ensures _
+          (high-inside c.before.before.before.before.before) _ _ c.stands_above-2.ensures (not-true _ c.if-not-stands_above-2.true-raw)),
+      λ e. omega (arith, e),
+    )
 
 pub returns : goal.returns
-returns c = λ ds ks ms ss. (
-  sym (node-0 _ _ _ (few c.before.before.before.before.before.before.before.before.before.before.before.before.before.before.before ds ks ms
-      ss) (variable c.before.before.before.before.before.before.before.before.before.before.before.before.before.before.before ds ks ms ss)
-      (low c.before.before.before.before.before.before.before.before.before ds ks ms ss)
-      (high c.before.before.before.before.before.before.before.before.before ds ks ms ss)
-      (above-is (lent c.before.before.before.before.before.before.before.before.before.before.before.before.before.before.before.before.before.before.before.before.before.before ds ks ms ss) c.args.st _ _ c.entry_node-low.ensures _
-      (low-inside c.before.before.before.before.before) _ _ c.stands_above.ensures
-      (not-false _ c.if-not-stands_above.false-raw))
-      (above-is (lent c.before.before.before.before.before.before.before.before.before.before.before.before.before.before.before.before.before.before.before.before.before.before ds ks ms ss) c.args.st _ _ c.entry_node-high.ensures _
-      (high-inside c.before.before.before.before.before) _ _ c.stands_above-2.ensures (not-false _ c.if-not-stands_above-2.false-raw))),
-  c.entry_node-low.ensures ∙ sym (node-is-at (lent
-      c.before.before.before.before.before.before.before.before.before.before.before.before.before.before.before.before.before.before.before.before.before.before ds ks ms ss) c.args.st c.args.b.low.0),
-  c.entry_node-high.ensures ∙ sym (node-is-at (lent
-      c.before.before.before.before.before.before.before.before.before.before.before.before.before.before.before.before.before.before.before.before.before.before ds ks ms ss) c.args.st c.args.b.high.0),
-)
+returns c =
+    let c12 = c.before.before.before.before.before.before.before.before.before.before.before.before in
+    λ ds ks ms ss. (
+      sym (node-0 _ _ _ (few c12.before.before.before ds ks ms
+          ss) (variable c12.before.before.before ds ks ms ss)
+          (low c.before.before.before.before.before.before.before.before.before ds ks ms ss)
+          (high c.before.before.before.before.before.before.before.before.before ds ks ms ss)
+          (above-is (lent c12.before.before.before.before.before.before.before.before.before.before ds ks ms ss) c.args.st _ _
+          c.entry_node-low.ensures _
+          (low-inside c.before.before.before.before.before) _ _ c.stands_above.ensures
+          (not-false _ c.if-not-stands_above.false-raw))
+          (above-is (lent c12.before.before.before.before.before.before.before.before.before.before ds ks ms ss) c.args.st _ _
+          c.entry_node-high.ensures _
+          (high-inside c.before.before.before.before.before) _ _ c.stands_above-2.ensures (not-false _ c.if-not-stands_above-2.false-raw))),
+      c.entry_node-low.ensures ∙ sym (node-is-at (lent
+          c12.before.before.before.before.before.before.before.before.before.before ds ks ms ss) c.args.st c.args.b.low.0),
+      c.entry_node-high.ensures ∙ sym (node-is-at (lent
+          c12.before.before.before.before.before.before.before.before.before.before ds ks ms ss) c.args.st c.args.b.high.0),
+    )

@@ -12,11 +12,16 @@ module _ (s : lts.Start tie.the-claims reads.Pre reads.Post) where
       s.args.count
 
 pub returns-in-Parity : goal.returns-in-Parity
-returns-in-Parity c = kind-made
-    (before c.before.before.before.before.before.before.before.before.before.before.before.before.before.before.before.before.before.before.before.before.before.before.before.before) _ _ _ c.in-Parity.is _
+returns-in-Parity c =
+    let c12 = c.before.before.before.before.before.before.before.before.before.before.before.before in
+    let c24 = c12.before.before.before.before.before.before.before.before.before.before.before.before in
+    kind-made
+    (before c24) _ _ _ c.in-Parity.is _
     c.parity.ensures
 
 pub returns-in-AtLeast : goal.returns-in-AtLeast
-returns-in-AtLeast c = kind-made
-    (before c.before.before.before.before.before.before.before.before.before.before.before.before.before.before.before.before.before.before.before.before.before.before.before) _ _ _ c.in-AtLeast.is _
+returns-in-AtLeast c =
+    let c12 = c.before.before.before.before.before.before.before.before.before.before.before.before in
+    kind-made
+    (before c12.before.before.before.before.before.before.before.before.before.before.before) _ _ _ c.in-AtLeast.is _
     c.at_least.ensures

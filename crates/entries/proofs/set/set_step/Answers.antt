@@ -42,7 +42,9 @@ module _ (c : lts.After-set_made tie.the-claims reads.Pre reads.Post) where
 
   grown : Grown (before c.before.before.before.before.before.before.before.before.before.before.before.before.before.before)
       (set_diagram 64 c.args.kind c.args.b) outcome
-  grown = made-grown (before c.before.before.before.before.before.before.before.before.before.before.before.before.before.before)
+  grown =
+      let c12 = c.before.before.before.before.before.before.before.before.before.before.before.before in
+      made-grown (before c12.before.before)
       c.requires.good c.args.kind c.args.b outcome made
 
 pub returns-then-number-ne0 : goal.returns-then-number-ne0
@@ -52,29 +54,46 @@ returns-then-number-ne0 c = λ ms ss H.
 
 pub drop_to-requires : goal.drop_to-requires
 drop_to-requires c =
-    let m = c.before.before.before.before.before.before.before.before.before.before.before.before.before.before.before.before.before.before
-    in ((grown c.before.before.before.before.before.before.before.before.before.before.before.before.before.before.before.before.before.before).good, m.requires.good.least, (grown c.before.before.before.before.before.before.before.before.before.before.before.before.before.before.before.before.before.before).more)
+    let c12 = c.before.before.before.before.before.before.before.before.before.before.before.before in
+    let m = c12.before.before.before.before.before.before
+    in (
+      (grown c12.before.before.before.before.before.before).good,
+      m.requires.good.least,
+      (grown c12.before.before.before.before.before.before).more,
+    )
 
 pub returns-then-p : goal.returns-then-p
-returns-then-p c = λ ms ss H.
-    set_full _ (lent c.before.before.before.before.before.before.before.before.before.before.before.before.before.before.before.before.before.before.before.before.before.before.before.before.before.before.before.before.before.before.before.before.before.before.before.before.before.before.before.before.before.before.before ms ss) c.args.st c.args.kind c.args.b H (none c.before.before.before.before.before.before.before.before.before.before.before.before.before.before.before.before.before.before.before.before.before.before.before.before.before.before.before.before.before.before.before.before.before.before.before) (outcome c.before.before.before.before.before.before.before.before.before.before.before.before.before.before.before.before.before.before.before.before.before.before.before.before.before.before.before.before.before) (made c.before.before.before.before.before.before.before.before.before.before.before.before.before.before.before.before.before.before.before.before.before.before.before.before.before.before.before.before.before) _
+returns-then-p c =
+    let c12 = c.before.before.before.before.before.before.before.before.before.before.before.before in
+    let c24 = c12.before.before.before.before.before.before.before.before.before.before.before.before in
+    let c36 = c24.before.before.before.before.before.before.before.before.before.before.before.before in
+    λ ms ss H.
+    set_full _ (lent c36.before.before.before.before.before.before.before ms ss) c.args.st c.args.kind c.args.b H
+    (none c24.before.before.before.before.before.before.before.before.before.before.before)
+    (outcome c24.before.before.before.before.before) (made c24.before.before.before.before.before) _
     c.drop_to.ensures _
     c.greater-peak.ensures c.if-p.true
 
 pub bounds-scratch-entries : goal.bounds-scratch-entries
 bounds-scratch-entries c =
+    let c12 = c.before.before.before.before.before.before.before.before.before.before.before.before in
     omega (
       arith,
       (set-fits c.args.variables c.args.st.entries c.args.kind c.args.b
-          (none c.before.before.before.before.before.before.before.before.before.before.before.before.before.before.before.before.before.before.before.before)
+          (none c12.before.before.before.before.before.before.before.before)
           ).few,
       c.requires.room,
     )
 
 pub returns : goal.returns
-returns c = λ ms ss H.
-    set-made _ (lent c.before.before.before.before.before.before.before.before.before.before.before.before.before.before.before.before.before.before.before.before.before.before.before.before.before.before.before.before.before ms ss) c.args.st c.args.kind c.args.b H (none c.before.before.before.before.before.before.before.before.before.before.before.before.before.before.before.before.before.before.before.before.before) (outcome c.before.before.before.before.before.before.before.before.before.before.before.before.before.before.before) (made c.before.before.before.before.before.before.before.before.before.before.before.before.before.before.before)
+returns c =
+    let c12 = c.before.before.before.before.before.before.before.before.before.before.before.before in
+    let c24 = c12.before.before.before.before.before.before.before.before.before.before.before.before in
+    λ ms ss H.
+    set-made _ (lent c24.before.before.before.before.before ms ss) c.args.st c.args.kind c.args.b H
+    (none c12.before.before.before.before.before.before.before.before.before) (outcome c12.before.before.before)
+    (made c12.before.before.before)
     c.if-p.false c.with_entry.result
     (c.with_entry.ensures ∙ ap (state_with_entry c.args.st
-    (outcome c.before.before.before.before.before.before.before.before.before.before.before.before.before.before.before).table.count)
+    (outcome c12.before.before.before).table.count)
     c.greater-peak.ensures)

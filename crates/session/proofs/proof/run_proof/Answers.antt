@@ -65,8 +65,11 @@ shape_of-struck c =
 
 pub returns : goal.returns
 returns c =
+    let c12 = c.before.before.before.before.before.before.before.before.before.before.before.before in
+    let c24 = c12.before.before.before.before.before.before.before.before.before.before.before.before in
+    let c36 = c24.before.before.before.before.before.before.before.before.before.before.before.before in
     let after-read-commands =
-    c.before.before.before.before.before.before.before.before.before.before.before.before.before.before.before.before.before.before.before.before.before.before.before.before.before.before.before.before.before.before.before.before.before.before.before.before.before.before in
+    c36.before.before in
     let after-drop-to = c.before.before.before.before.before.before.before.before.before.before.before in
     let a = c.args in
     let l : Lent = lent_of after-read-commands.read_commands-ended.new.vars after-read-commands.read_commands-ended.new.lows

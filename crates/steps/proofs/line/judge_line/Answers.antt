@@ -41,100 +41,115 @@ module _ (s : lts.Start tie.the-claims reads.Pre reads.Post tie.handed_clauses) 
 
 pub slice_bounds-rup-end : goal.slice_bounds-rup-end
 slice_bounds-rup-end c =
-    sym (own-length c.before.before.before.before.before.before.before.before.before.before.before.before.before.before.before.before.before.before.before)
+    let c12 = c.before.before.before.before.before.before.before.before.before.before.before.before in
+    sym (own-length c12.before.before.before.before.before.before.before)
 
 pub slice_bounds-rup-end-in-Rup-2 : goal.slice_bounds-rup-end-in-Rup-2
 slice_bounds-rup-end-in-Rup-2 c =
-    sym (scratch-length c.before.before.before.before.before.before.before.before.before.before.before.before.before.before.before.before.before.before.before.before)
+    let c12 = c.before.before.before.before.before.before.before.before.before.before.before.before in
+    sym (scratch-length c12.before.before.before.before.before.before.before.before)
 
 pub slice_bounds-rup-end-in-Rup-3 : goal.slice_bounds-rup-end-in-Rup-3
 slice_bounds-rup-end-in-Rup-3 c =
-    sym (own-length c.before.before.before.before.before.before.before.before.before.before.before.before.before.before.before.before.before.before.before.before.before)
+    let c12 = c.before.before.before.before.before.before.before.before.before.before.before.before in
+    sym (own-length c12.before.before.before.before.before.before.before.before.before)
 
 pub rup-requires : goal.rup-requires
 rup-requires c =
+    let c12 = c.before.before.before.before.before.before.before.before.before.before.before.before in
     record {
       fact = (
         c.requires.0,
         c.requires.1,
         scratch-length
-            c.before.before.before.before.before.before.before.before.before.before.before.before.before.before.before.before.before.before.before.before.before,
+            c12.before.before.before.before.before.before.before.before.before,
         c.requires.2,
       );
       memberwords_len = (
         own-length
-            c.before.before.before.before.before.before.before.before.before.before.before.before.before.before.before.before.before.before.before.before.before,
-        own-length c.before.before.before.before.before.before.before.before.before.before.before.before.before.before.before.before.before.before.before.before.before,
+            c12.before.before.before.before.before.before.before.before.before,
+        own-length c12.before.before.before.before.before.before.before.before.before,
       );
     }
 
 pub slice_bounds-pr-end : goal.slice_bounds-pr-end
 slice_bounds-pr-end c =
-    sym (own-length c.before.before.before.before.before.before.before.before.before.before.before.before.before.before.before.before.before.before.before)
+    let c12 = c.before.before.before.before.before.before.before.before.before.before.before.before in
+    sym (own-length c12.before.before.before.before.before.before.before)
 
 pub slice_bounds-pr-end-in-Pr-2 : goal.slice_bounds-pr-end-in-Pr-2
 slice_bounds-pr-end-in-Pr-2 c =
-    sym (scratch-length c.before.before.before.before.before.before.before.before.before.before.before.before.before.before.before.before.before.before.before.before)
+    let c12 = c.before.before.before.before.before.before.before.before.before.before.before.before in
+    sym (scratch-length c12.before.before.before.before.before.before.before.before)
 
 pub slice_bounds-pr-end-in-Pr-3 : goal.slice_bounds-pr-end-in-Pr-3
 slice_bounds-pr-end-in-Pr-3 c =
-    sym (own-length c.before.before.before.before.before.before.before.before.before.before.before.before.before.before.before.before.before.before.before.before.before)
+    let c12 = c.before.before.before.before.before.before.before.before.before.before.before.before in
+    sym (own-length c12.before.before.before.before.before.before.before.before.before)
 
 pub slice_bounds-pr-end-in-Pr-4 : goal.slice_bounds-pr-end-in-Pr-4
 slice_bounds-pr-end-in-Pr-4 c =
-    sym (own-length c.before.before.before.before.before.before.before.before.before.before.before.before.before.before.before.before.before.before.before.before.before.before)
+    let c12 = c.before.before.before.before.before.before.before.before.before.before.before.before in
+    sym (own-length c12.before.before.before.before.before.before.before.before.before.before)
 
 pub slice_bounds-pr-end-in-Pr-5 : goal.slice_bounds-pr-end-in-Pr-5
 slice_bounds-pr-end-in-Pr-5 c =
-    sym (own-length c.before.before.before.before.before.before.before.before.before.before.before.before.before.before.before.before.before.before.before.before.before.before.before)
+    let c12 = c.before.before.before.before.before.before.before.before.before.before.before.before in
+    sym (own-length c12.before.before.before.before.before.before.before.before.before.before.before)
 
 pub pr-requires : goal.pr-requires
 pr-requires c =
+    let c12 = c.before.before.before.before.before.before.before.before.before.before.before.before in
+    let c24 = c12.before.before.before.before.before.before.before.before.before.before.before.before in
     record {
       fact = (
         c.requires.0,
         c.requires.1,
         scratch-length
-            c.before.before.before.before.before.before.before.before.before.before.before.before.before.before.before.before.before.before.before.before.before.before.before.before,
-        own-length c.before.before.before.before.before.before.before.before.before.before.before.before.before.before.before.before.before.before.before.before.before.before.before.before,
+            c24,
+        own-length c24,
         c.requires.2,
       );
       memberwords_len = (
         own-length
-            c.before.before.before.before.before.before.before.before.before.before.before.before.before.before.before.before.before.before.before.before.before.before.before.before,
-        own-length c.before.before.before.before.before.before.before.before.before.before.before.before.before.before.before.before.before.before.before.before.before.before.before.before,
-        own-length c.before.before.before.before.before.before.before.before.before.before.before.before.before.before.before.before.before.before.before.before.before.before.before.before,
+            c24,
+        own-length c24,
+        own-length c24,
       );
     }
 
 pub slice_bounds-path-end : goal.slice_bounds-path-end
 slice_bounds-path-end c =
-    sym (own-length c.before.before.before.before.before.before.before.before.before.before.before.before.before.before.before.before.before.before.before)
+    let c12 = c.before.before.before.before.before.before.before.before.before.before.before.before in
+    sym (own-length c12.before.before.before.before.before.before.before)
 
 pub slice_bounds-path-end-in-Path-2 : goal.slice_bounds-path-end-in-Path-2
 slice_bounds-path-end-in-Path-2 c =
-    sym (scratch-length c.before.before.before.before.before.before.before.before.before.before.before.before.before.before.before.before.before.before.before.before)
+    let c12 = c.before.before.before.before.before.before.before.before.before.before.before.before in
+    sym (scratch-length c12.before.before.before.before.before.before.before.before)
 
 pub slice_bounds-path-end-in-Path-3 : goal.slice_bounds-path-end-in-Path-3
 slice_bounds-path-end-in-Path-3 c =
-    sym (own-length c.before.before.before.before.before.before.before.before.before.before.before.before.before.before.before.before.before.before.before.before.before)
+    let c12 = c.before.before.before.before.before.before.before.before.before.before.before.before in
+    sym (own-length c12.before.before.before.before.before.before.before.before.before)
 
 pub path-requires : goal.path-requires
 path-requires c =
+    let c12 = c.before.before.before.before.before.before.before.before.before.before.before.before in
     record {
       fact = (
         c.requires.0,
         c.requires.1,
-        scratch-length c.before.before.before.before.before.before.before.before.before.before.before.before.before.before.before.before.before.before.before.before.before,
+        scratch-length c12.before.before.before.before.before.before.before.before.before,
         c.requires.2,
         subst (λ (x : Rule). FewPaths x (diagram_at
-            (nodes_of (before c.before.before.before.before.before.before.before.before.before.before.before.before.before.before.before.before.before.before.before.before.before)) c.args.g.0))
+            (nodes_of (before c12.before.before.before.before.before.before.before.before.before)) c.args.g.0))
             c.in-Path.is c.requires.4,
       );
       memberwords_len = (
         own-length
-            c.before.before.before.before.before.before.before.before.before.before.before.before.before.before.before.before.before.before.before.before.before,
-        own-length c.before.before.before.before.before.before.before.before.before.before.before.before.before.before.before.before.before.before.before.before.before,
+            c12.before.before.before.before.before.before.before.before.before,
+        own-length c12.before.before.before.before.before.before.before.before.before,
       );
     }
 
@@ -168,17 +183,23 @@ shape_of-marks-in-Rup c =
 
 pub shape_of-scratch-in-Rup : goal.shape_of-scratch-in-Rup
 shape_of-scratch-in-Rup c =
+    let c12 = c.before.before.before.before.before.before.before.before.before.before.before.before in
+    let c24 = c12.before.before.before.before.before.before.before.before.before.before.before.before in
+    let c36 = c24.before.before.before.before.before.before.before.before.before.before.before.before in
     length_front c.args.scratch.now c.rup.new.list
-    (m c.before.before.before.before.before.before.before.before.before.before.before.before.before.before.before.before.before.before.before.before.before.before.before.before.before.before.before.before.before.before.before.before.before.before.before.before.before.before.before.before) c.rup.auto.list
+    (m c36.before.before.before.before) c.rup.auto.list
 
 pub returns-in-Rup : goal.returns-in-Rup
 returns-in-Rup c =
+    let c12 = c.before.before.before.before.before.before.before.before.before.before.before.before in
+    let c24 = c12.before.before.before.before.before.before.before.before.before.before.before.before in
+    let c36 = c24.before.before.before.before.before.before.before.before.before.before.before.before in
     record {
       fact = subst (λ (x : Rule). LineSays (before
-          c.before.before.before.before.before.before.before.before.before.before.before.before.before.before.before.before.before.before.before.before.before.before.before.before.before.before.before.before.before.before.before.before.before.before.before.before.before.before.before.before) (said c.before.before.before.before.before.before.before.before.before.before.before.before.before.before.before.before.before.before.before.before.before.before.before.before.before.before.before.before.before.before.before.before.before.before.before.before.before.before.before.before x) most_rounds c.rup.result
+          c36.before.before.before.before) (said c36.before.before.before.before x) most_rounds c.rup.result
           (table_of c.rup.new.vars c.rup.new.lows c.rup.new.highs c.rup.new.heads c.rup.new.links c.rup.result.count))
           (sym c.in-Rup.is)
-          (says-most (before c.before.before.before.before.before.before.before.before.before.before.before.before.before.before.before.before.before.before.before.before.before.before.before.before.before.before.before.before.before.before.before.before.before.before.before.before.before.before.before.before) _ _ most_rounds c.rup.result _ (omega arith) c.rup.ensures.fact_2);
+          (says-most (before c36.before.before.before.before) _ _ most_rounds c.rup.result _ (omega arith) c.rup.ensures.fact_2);
       marks_after = c.rup.ensures.marks_after;
     }
 
@@ -212,17 +233,25 @@ shape_of-marks-in-Pr c =
 
 pub shape_of-scratch-in-Pr : goal.shape_of-scratch-in-Pr
 shape_of-scratch-in-Pr c =
+    let c12 = c.before.before.before.before.before.before.before.before.before.before.before.before in
+    let c24 = c12.before.before.before.before.before.before.before.before.before.before.before.before in
+    let c36 = c24.before.before.before.before.before.before.before.before.before.before.before.before in
     length_front c.args.scratch.now c.pr.new.first
-    (m c.before.before.before.before.before.before.before.before.before.before.before.before.before.before.before.before.before.before.before.before.before.before.before.before.before.before.before.before.before.before.before.before.before.before.before.before.before.before.before.before.before.before.before.before.before) c.pr.auto.first
+    (m c36.before.before.before.before.before.before.before.before.before) c.pr.auto.first
 
 pub returns-in-Pr : goal.returns-in-Pr
 returns-in-Pr c =
+    let c12 = c.before.before.before.before.before.before.before.before.before.before.before.before in
+    let c24 = c12.before.before.before.before.before.before.before.before.before.before.before.before in
+    let c36 = c24.before.before.before.before.before.before.before.before.before.before.before.before in
     record {
       fact = subst (λ (x : Rule). LineSays (before
-          c.before.before.before.before.before.before.before.before.before.before.before.before.before.before.before.before.before.before.before.before.before.before.before.before.before.before.before.before.before.before.before.before.before.before.before.before.before.before.before.before.before.before.before.before.before) (said c.before.before.before.before.before.before.before.before.before.before.before.before.before.before.before.before.before.before.before.before.before.before.before.before.before.before.before.before.before.before.before.before.before.before.before.before.before.before.before.before.before.before.before.before.before x) most_rounds c.pr.result
+          c36.before.before.before.before.before.before.before.before.before)
+          (said c36.before.before.before.before.before.before.before.before.before x) most_rounds c.pr.result
           (table_of c.pr.new.vars c.pr.new.lows c.pr.new.highs c.pr.new.heads c.pr.new.links c.pr.result.count))
           (sym c.in-Pr.is)
-          (says-most (before c.before.before.before.before.before.before.before.before.before.before.before.before.before.before.before.before.before.before.before.before.before.before.before.before.before.before.before.before.before.before.before.before.before.before.before.before.before.before.before.before.before.before.before.before.before) _ _ most_rounds c.pr.result _ (omega (arith, c.requires.2)) c.pr.ensures.fact_2);
+          (says-most (before c36.before.before.before.before.before.before.before.before.before) _ _ most_rounds c.pr.result _
+          (omega (arith, c.requires.2)) c.pr.ensures.fact_2);
       marks_after = c.pr.ensures.marks_after;
     }
 
@@ -256,14 +285,20 @@ shape_of-marks-in-Path c =
 
 pub shape_of-scratch-in-Path : goal.shape_of-scratch-in-Path
 shape_of-scratch-in-Path c =
+    let c12 = c.before.before.before.before.before.before.before.before.before.before.before.before in
+    let c24 = c12.before.before.before.before.before.before.before.before.before.before.before.before in
+    let c36 = c24.before.before.before.before.before.before.before.before.before.before.before.before in
     length_front c.args.scratch.now c.path.new.list
-    (m c.before.before.before.before.before.before.before.before.before.before.before.before.before.before.before.before.before.before.before.before.before.before.before.before.before.before.before.before.before.before.before.before.before.before.before.before.before.before.before.before) c.path.auto.list
+    (m c36.before.before.before.before) c.path.auto.list
 
 pub returns-in-Path : goal.returns-in-Path
 returns-in-Path c =
+    let c12 = c.before.before.before.before.before.before.before.before.before.before.before.before in
+    let c24 = c12.before.before.before.before.before.before.before.before.before.before.before.before in
+    let c36 = c24.before.before.before.before.before.before.before.before.before.before.before.before in
     record {
       fact = subst (λ (x : Rule). LineSays (before
-          c.before.before.before.before.before.before.before.before.before.before.before.before.before.before.before.before.before.before.before.before.before.before.before.before.before.before.before.before.before.before.before.before.before.before.before.before.before.before.before.before) (said c.before.before.before.before.before.before.before.before.before.before.before.before.before.before.before.before.before.before.before.before.before.before.before.before.before.before.before.before.before.before.before.before.before.before.before.before.before.before.before.before x) most_rounds c.path.result
+          c36.before.before.before.before) (said c36.before.before.before.before x) most_rounds c.path.result
           (table_of c.path.new.vars c.path.new.lows c.path.new.highs c.path.new.heads c.path.new.links c.path.result.count))
           (sym c.in-Path.is)
           c.path.ensures.fact_2;

@@ -72,18 +72,21 @@ pub slice_bounds-judge_line-end : goal.slice_bounds-judge_line-end
 slice_bounds-judge_line-end c = sym (gathered-length c.before.before.before.before.before.before.before.before.before.before)
 
 pub judge_line-requires : goal.judge_line-requires
-judge_line-requires c = (
-  subst (λ (ms : List ℕ). Negatable
-      (before c.before.before.before.before.before.before.before.before.before.before.before.before.before.before.before.before.before.before.before.before.before.before.before) ms c.args.memo.now c.args.g.0) (sym (gathered-is c.before.before.before.before.before.before.before.before.before.before.before)) (ready c.before.before.before.before.before.before.before.before.before.before.before.before.before.before.before.before.before.before.before.before.before.before.before),
-  c.requires.1,
-  omega (
-    arith,
-    gathered-length c.before.before.before.before.before.before.before.before.before.before.before,
-    few c.before.before.before.before.before.before.before.before.before.before.before,
-  ),
-  c.requires.4,
-  c.requires.6,
-)
+judge_line-requires c =
+    let c12 = c.before.before.before.before.before.before.before.before.before.before.before.before in (
+      subst (λ (ms : List ℕ). Negatable
+          (before c12.before.before.before.before.before.before.before.before.before.before.before) ms c.args.memo.now c.args.g.0)
+          (sym (gathered-is c.before.before.before.before.before.before.before.before.before.before.before))
+          (ready c12.before.before.before.before.before.before.before.before.before.before.before),
+      c.requires.1,
+      omega (
+        arith,
+        gathered-length c.before.before.before.before.before.before.before.before.before.before.before,
+        few c.before.before.before.before.before.before.before.before.before.before.before,
+      ),
+      c.requires.4,
+      c.requires.6,
+    )
 
 pub shape_of-vars : goal.shape_of-vars
 shape_of-vars c = c.judge_line.auto.vars
@@ -111,11 +114,14 @@ shape_of-scratch c = c.judge_line.auto.scratch
 
 pub returns : goal.returns
 returns c =
+    let c12 = c.before.before.before.before.before.before.before.before.before.before.before.before in
+    let c24 = c12.before.before.before.before.before.before.before.before.before.before.before.before in
+    let c36 = c24.before.before.before.before.before.before.before.before.before.before.before.before in
     record {
       fact = subst (λ (ms : List ℕ). LineSays (before
-          c.before.before.before.before.before.before.before.before.before.before.before.before.before.before.before.before.before.before.before.before.before.before.before.before.before.before.before.before.before.before.before.before.before.before.before.before.before.before.before.before) (said c.before.before.before.before.before.before.before.before.before.before.before.before.before.before.before.before.before.before.before.before.before.before.before.before.before.before.before.before.before.before.before.before.before.before.before.before.before.before.before.before ms) most_rounds c.judge_line.result
+          c36.before.before.before.before) (said c36.before.before.before.before ms) most_rounds c.judge_line.result
           (table_of c.judge_line.new.vars c.judge_line.new.lows c.judge_line.new.highs c.judge_line.new.heads c.judge_line.new.links
           c.judge_line.result.count))
-          (gathered-is c.before.before.before.before.before.before.before.before.before.before.before.before.before.before.before.before.before.before.before.before.before.before.before.before.before.before.before.before) c.judge_line.ensures.fact;
+          (gathered-is c24.before.before.before.before) c.judge_line.ensures.fact;
       marks_after = c.judge_line.ensures.marks_after;
     }

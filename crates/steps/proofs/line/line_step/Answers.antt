@@ -42,8 +42,9 @@ module _ (c : lts.Past-After-known_told2 tie.the-claims reads.Pre reads.Post tie
   tested : LineTested 64 (state c.before.before.before.before.before.before.before.before.before.before.before.before.before.before.before)
       c.args.rule c.args.root.0 (Fits c.in-Fits.g)
   tested =
+      let c12 = c.before.before.before.before.before.before.before.before.before.before.before.before in
       subst (LineTested 64 (state
-      c.before.before.before.before.before.before.before.before.before.before.before.before.before.before.before) c.args.rule
+      c12.before.before.before) c.args.rule
       c.args.root.0) c.in-Fits.is
       (c.line_test.ensures c.args.heads.now c.args.links.now c.args.members.now
       c.args.struck.now)
@@ -72,11 +73,14 @@ module _ (c : lts.After-try_line tie.the-claims reads.Pre reads.Post tie.handed_
   said = c.try_line-j.ensures.fact.1
 
   scratch-room : 4096 ≤ length scratch₁
-  scratch-room = omega (
-    arith,
-    c.try_line-j.auto.scratch,
-    (held c.before.before.before.before.before.before.before.before.before.before.before.before.before.before.before.before.before.before.before.before.before.before.before.before).entries.room,
-  )
+  scratch-room =
+      let c12 = c.before.before.before.before.before.before.before.before.before.before.before.before in
+      let c24 = c12.before.before.before.before.before.before.before.before.before.before.before.before in
+      omega (
+        arith,
+        c.try_line-j.auto.scratch,
+        (held c24).entries.room,
+      )
 
 pub line_test-requires : goal.line_test-requires
 line_test-requires c = (
@@ -90,24 +94,47 @@ line_test-requires c = (
 
 pub try_line-j-requires : goal.try_line-j-requires
 try_line-j-requires c =
+    let c12 = c.before.before.before.before.before.before.before.before.before.before.before.before in
+    let c24 = c12.before.before.before.before.before.before.before.before.before.before.before.before in
     let few = few-members 64 (lent
-    c.before.before.before.before.before.before.before.before.before.before.before.before.before.before.before.before.before.before.before.before.before.before.before.before) c.args.st (held c.before.before.before.before.before.before.before.before.before.before.before.before.before.before.before.before.before.before.before.before.before.before.before.before) c.args.rule c.args.root.0 (none c.before.before.before.before.before.before.before.before.before) (root c.before.before.before.before.before.before.before.before.before) (root_is c.before.before.before.before.before.before.before.before.before) in (
-      line-ready 64 (lent c.before.before.before.before.before.before.before.before.before.before.before.before.before.before.before.before.before.before.before.before.before.before.before.before) c.args.st (held c.before.before.before.before.before.before.before.before.before.before.before.before.before.before.before.before.before.before.before.before.before.before.before.before) c.args.rule c.args.root.0 (none c.before.before.before.before.before.before.before.before.before) (root c.before.before.before.before.before.before.before.before.before) (root_is c.before.before.before.before.before.before.before.before.before)
+    c24) c.args.st (held c24) c.args.rule c.args.root.0 (none c.before.before.before.before.before.before.before.before.before)
+    (root c.before.before.before.before.before.before.before.before.before)
+    (root_is c.before.before.before.before.before.before.before.before.before) in (
+      line-ready 64 (lent c24) c.args.st (held c24) c.args.rule c.args.root.0
+          (none c.before.before.before.before.before.before.before.before.before)
+          (root c.before.before.before.before.before.before.before.before.before)
+          (root_is c.before.before.before.before.before.before.before.before.before)
           c.line_test.new.memo
           (omega (arith, c.requires.2, c.line_test.auto.memo)),
       c.requires.1,
       omega (arith, few),
-      (held c.before.before.before.before.before.before.before.before.before.before.before.before.before.before.before.before.before.before.before.before.before.before.before.before).room,
-      (held c.before.before.before.before.before.before.before.before.before.before.before.before.before.before.before.before.before.before.before.before.before.before.before.before).entries.room,
-      (held c.before.before.before.before.before.before.before.before.before.before.before.before.before.before.before.before.before.before.before.before.before.before.before.before).marked,
-      few-paths 64 (lent c.before.before.before.before.before.before.before.before.before.before.before.before.before.before.before.before.before.before.before.before.before.before.before.before) c.args.st (held c.before.before.before.before.before.before.before.before.before.before.before.before.before.before.before.before.before.before.before.before.before.before.before.before) c.args.rule c.args.root.0 (none c.before.before.before.before.before.before.before.before.before) (root c.before.before.before.before.before.before.before.before.before) (root_is c.before.before.before.before.before.before.before.before.before),
+      (held c24).room,
+      (held c24).entries.room,
+      (held c24).marked,
+      few-paths 64 (lent c24) c.args.st (held c24) c.args.rule c.args.root.0
+          (none c.before.before.before.before.before.before.before.before.before)
+          (root c.before.before.before.before.before.before.before.before.before)
+          (root_is c.before.before.before.before.before.before.before.before.before),
     )
 
 pub ended-requires : goal.ended-requires
 ended-requires c =
+    let c12 = c.before.before.before.before.before.before.before.before.before.before.before.before in
+    let c24 = c12.before.before.before.before.before.before.before.before.before.before.before.before in
+    let c36 = c24.before.before.before.before.before.before.before.before.before.before.before.before in
     let few = few-members 64 (lent
-    c.before.before.before.before.before.before.before.before.before.before.before.before.before.before.before.before.before.before.before.before.before.before.before.before.before.before.before.before.before.before.before.before.before.before.before.before.before.before.before.before.before.before) c.args.st (held c.before.before.before.before.before.before.before.before.before.before.before.before.before.before.before.before.before.before.before.before.before.before.before.before.before.before.before.before.before.before.before.before.before.before.before.before.before.before.before.before.before.before) c.args.rule c.args.root.0 (none c.before.before.before.before.before.before.before.before.before.before.before.before.before.before.before.before.before.before.before.before.before.before.before.before.before.before.before) (root c.before.before.before.before.before.before.before.before.before.before.before.before.before.before.before.before.before.before.before.before.before.before.before.before.before.before.before) (root_is c.before.before.before.before.before.before.before.before.before.before.before.before.before.before.before.before.before.before.before.before.before.before.before.before.before.before.before) in
-    (few, (held c.before.before.before.before.before.before.before.before.before.before.before.before.before.before.before.before.before.before.before.before.before.before.before.before.before.before.before.before.before.before.before.before.before.before.before.before.before.before.before.before.before.before).room, (held c.before.before.before.before.before.before.before.before.before.before.before.before.before.before.before.before.before.before.before.before.before.before.before.before.before.before.before.before.before.before.before.before.before.before.before.before.before.before.before.before.before.before).lines, omega (arith, (held c.before.before.before.before.before.before.before.before.before.before.before.before.before.before.before.before.before.before.before.before.before.before.before.before.before.before.before.before.before.before.before.before.before.before.before.before.before.before.before.before.before.before).rounds, (held c.before.before.before.before.before.before.before.before.before.before.before.before.before.before.before.before.before.before.before.before.before.before.before.before.before.before.before.before.before.before.before.before.before.before.before.before.before.before.before.before.before.before).lines, (said c.before.before.before.before.before.before.before.before.before.before.before.before.before.before.before.before.before.before).most))
+    c36.before.before.before.before.before.before) c.args.st (held c36.before.before.before.before.before.before) c.args.rule c.args.root.0
+    (none c24.before.before.before) (root c24.before.before.before) (root_is c24.before.before.before) in (
+      few,
+      (held c36.before.before.before.before.before.before).room,
+      (held c36.before.before.before.before.before.before).lines,
+      omega (
+        arith,
+        (held c36.before.before.before.before.before.before).rounds,
+        (held c36.before.before.before.before.before.before).lines,
+        (said c12.before.before.before.before.before.before).most,
+      ),
+    )
 
 pub shape_of-vars-in-Refused : goal.shape_of-vars-in-Refused
 shape_of-vars-in-Refused c = refl
@@ -126,14 +153,15 @@ shape_of-scratch-in-Refused c = refl
 
 pub returns-in-Refused : goal.returns-in-Refused
 returns-in-Refused c =
+    let c12 = c.before.before.before.before.before.before.before.before.before.before.before.before in
     let told = subst (LineTested 64
-    (state c.before.before.before.before.before.before.before.before.before.before.before.before.before.before.before.before)
+    (state c12.before.before.before.before)
     c.args.rule c.args.root.0) c.in-Refused.is
     (c.line_test.ensures c.args.heads.now c.args.links.now c.args.members.now
     c.args.struck.now) in
     record {
       stepped = (λ n H. line_refused n (lent
-          c.before.before.before.before.before.before.before.before.before.before.before.before.before.before.before.before) c.args.st H
+          c12.before.before.before.before) c.args.st H
           c.args.rule c.args.root.0 _ told.0 told.1);
       marks_after = c.requires.1;
     }
@@ -167,9 +195,19 @@ shape_of-scratch-in-Fits c = c.try_line-j.auto.scratch
 
 pub returns-in-Fits : goal.returns-in-Fits
 returns-in-Fits c =
+    let c12 = c.before.before.before.before.before.before.before.before.before.before.before.before in
+    let c24 = c12.before.before.before.before.before.before.before.before.before.before.before.before in
+    let c36 = c24.before.before.before.before.before.before.before.before.before.before.before.before in
     record {
       stepped = (λ n H. line-stepped n
-          (lent c.before.before.before.before.before.before.before.before.before.before.before.before.before.before.before.before.before.before.before.before.before.before.before.before.before.before.before.before.before.before.before.before.before.before.before.before.before.before.before.before.before.before.before.before.before) c.args.st H c.args.rule c.args.root.0 (none c.before.before.before.before.before.before.before.before.before.before.before.before.before.before.before.before.before.before.before.before.before.before.before.before.before.before.before.before.before.before) (root c.before.before.before.before.before.before.before.before.before.before.before.before.before.before.before.before.before.before.before.before.before.before.before.before.before.before.before.before.before.before) (root_is c.before.before.before.before.before.before.before.before.before.before.before.before.before.before.before.before.before.before.before.before.before.before.before.before.before.before.before.before.before.before) c.try_line-j.result
-          (said c.before.before.before.before.before.before.before.before.before.before.before.before.before.before.before.before.before.before.before.before.before) (table₁ c.before.before.before.before.before.before.before.before.before.before.before.before.before.before.before.before.before.before.before.before.before) (back c.before.before.before.before.before.before.before.before.before.before.before.before.before.before.before.before.before.before.before.before.before) (scratch₁ c.before.before.before.before.before.before.before.before.before.before.before.before.before.before.before.before.before.before.before.before.before) (scratch-room c.before.before.before.before.before.before.before.before.before.before.before.before.before.before.before.before.before.before.before.before.before) c.ended.ensures.value c.ended.ensures.members_after);
+          (lent c36.before.before.before.before.before.before.before.before.before) c.args.st H c.args.rule c.args.root.0
+          (none c24.before.before.before.before.before.before) (root c24.before.before.before.before.before.before)
+          (root_is c24.before.before.before.before.before.before) c.try_line-j.result
+          (said c12.before.before.before.before.before.before.before.before.before)
+          (table₁ c12.before.before.before.before.before.before.before.before.before)
+          (back c12.before.before.before.before.before.before.before.before.before)
+          (scratch₁ c12.before.before.before.before.before.before.before.before.before)
+          (scratch-room c12.before.before.before.before.before.before.before.before.before) c.ended.ensures.value
+          c.ended.ensures.members_after);
       marks_after = c.try_line-j.ensures.marks_after;
     }

@@ -47,9 +47,11 @@ shape_of-scratch c = c.judge_live-j.auto.scratch
 
 pub returns : goal.returns
 returns c =
+    let c12 = c.before.before.before.before.before.before.before.before.before.before.before.before in
+    let c24 = c12.before.before.before.before.before.before.before.before.before.before.before.before in
     record {
       fact = tried _ c.requires.0.ready.good _ _
-          (judged c.before.before.before.before.before.before.before.before.before.before.before.before.before.before.before.before.before.before.before.before.before.before.before.before.before.before.before.before.before.before.before.before.before) _ c.judge_live-j.ensures.fact
+          (judged c24.before.before.before.before.before.before.before.before.before) _ c.judge_live-j.ensures.fact
           c.drop_to.ensures;
       marks_after = c.judge_live-j.ensures.marks_after;
     }

@@ -69,38 +69,43 @@ module _ (a : lts.After-passes tie.the-claims reads.Pre reads.Post goal.the-inva
     unmarked-again = a.passes.ensures.marks_after ∙ ap (λ (t : Table). unmarked (length t.vars)) a.loop-i.invariant.0
 
 pub loop-i-init : goal.loop-i-init
-loop-i-init c = (
-  refl,
-  searching-start (before c.before.before.before.before.before.before.before.before.before.before.before.before.before.before)
-      c.args.witness.positive c.args.witness.negative
-      (ms c.before.before.before.before.before.before.before.before.before.before.before.before.before.before) c.args.members.now
-      c.args.struck.now c.args.many c.requires.fact_2.3,
-  c.requires.fact.1,
-  refl,
-  refl,
-  refl,
-)
+loop-i-init c =
+    let c12 = c.before.before.before.before.before.before.before.before.before.before.before.before in (
+      refl,
+      searching-start (before c12.before.before)
+          c.args.witness.positive c.args.witness.negative
+          (ms c12.before.before) c.args.members.now
+          c.args.struck.now c.args.many c.requires.fact_2.3,
+      c.requires.fact.1,
+      refl,
+      refl,
+      refl,
+    )
 
 pub passes-requires : goal.passes-requires
 passes-requires c =
+    let c12 = c.before.before.before.before.before.before.before.before.before.before.before.before in
+    let c24 = c12.before.before.before.before.before.before.before.before.before.before.before.before in
     let more = c.loop-i-test.true in
     let here = table_of c.loop-i.vars c.loop-i.lows c.loop-i.highs c.loop-i.heads c.loop-i.links c.args.count in record {
       fact = (
-        again-ready (before c.before.before.before.before.before.before.before.before.before.before.before.before.before.before.before.before.before.before.before.before.before.before.before.before.before) here c.args.first.now c.args.memo.now c.loop-i.memo c.loop-i.invariant.0 c.loop-i.invariant.3 c.requires.fact.0,
+        again-ready (before c24.before) here c.args.first.now c.args.memo.now c.loop-i.memo c.loop-i.invariant.0 c.loop-i.invariant.3
+            c.requires.fact.0,
         c.loop-i.invariant.2 ∙ sym (ap (λ (t : Table). unmarked (length t.vars)) c.loop-i.invariant.0),
         c.loop-i.invariant.4 ∙ c.requires.fact.2,
         c.requires.fact.3,
         omega (arith, more, c.requires.fact.4),
         omega (arith, more, c.requires.fact.5),
-        member-in c.before.before.before.before.before.before.before.before.before.before.before.before.before.before.before.before.before.before.before.before.before.before.before.before.before c.loop-i.i more,
+        member-in c24.before c.loop-i.i more,
       );
       fact_2 = (
         c.requires.fact_2.0,
         subst (λ (t : Table). Supports (nodes_of t) c.args.first.now c.args.firstwords.now) (sym c.loop-i.invariant.0) c.requires.fact_2.1,
         c.loop-i.invariant.5 ∙ c.requires.fact_2.2,
         subst (λ (t : Table). live_at
-            c.before.before.before.before.before.before.before.before.before.before.before.before.before.before.before.before.before.before.before.before.before.before.before.before.before c.loop-i.i ≡ true → (line_reach (size t) (nodes_of t) (one_on c.before.before.before.before.before.before.before.before.before.before.before.before.before.before.before.before.before.before.before.before.before.before.before.before.before t c.loop-i.i)).fits ≡ true) (sym c.loop-i.invariant.0)
-            (searching-fits (before c.before.before.before.before.before.before.before.before.before.before.before.before.before.before.before.before.before.before.before.before.before.before.before.before.before) c.args.witness.positive c.args.witness.negative (ms c.before.before.before.before.before.before.before.before.before.before.before.before.before.before.before.before.before.before.before.before.before.before.before.before.before) c.args.members.now
+            c24.before c.loop-i.i ≡ true → (line_reach (size t) (nodes_of t) (one_on c24.before t c.loop-i.i)).fits ≡ true)
+            (sym c.loop-i.invariant.0)
+            (searching-fits (before c24.before) c.args.witness.positive c.args.witness.negative (ms c24.before) c.args.members.now
             c.args.struck.now c.args.many c.requires.fact.4 c.requires.fact.5 c.loop-i.i more c.loop-i.invariant.1),
       );
     }
@@ -137,8 +142,9 @@ shape_of-memo-then-not-passes c =
 
 pub shape_of-marks-then-not-passes : goal.shape_of-marks-then-not-passes
 shape_of-marks-then-not-passes c =
+    let c12 = c.before.before.before.before.before.before.before.before.before.before.before.before in
     ap length (unmarked-again
-    c.before.before.before.before.before.before.before.before.before.before.before.before.before.before.before.before.before.before.before.before ∙ sym
+    c12.before.before.before.before.before.before.before.before ∙ sym
     c.requires.fact.1)
 
 pub shape_of-second-then-not-passes : goal.shape_of-second-then-not-passes
@@ -153,38 +159,52 @@ shape_of-secondwords-then-not-passes c =
 
 pub returns-then-not-passes : goal.returns-then-not-passes
 returns-then-not-passes c =
+    let c12 = c.before.before.before.before.before.before.before.before.before.before.before.before in
+    let c24 = c12.before.before.before.before.before.before.before.before.before.before.before.before in
+    let c36 = c24.before.before.before.before.before.before.before.before.before.before.before.before in
     record {
       fact_3 = (
-        as_before c.before.before.before.before.before.before.before.before.before.before.before.before.before.before.before.before.before.before.before.before,
-        searching-found (before c.before.before.before.before.before.before.before.before.before.before.before.before.before.before.before.before.before.before.before.before.before.before.before.before.before.before.before.before.before.before.before.before.before.before.before.before.before.before.before.before.before.before.before.before.before) c.args.witness.positive c.args.witness.negative (ms c.before.before.before.before.before.before.before.before.before.before.before.before.before.before.before.before.before.before.before.before.before.before.before.before.before.before.before.before.before.before.before.before.before.before.before.before.before.before.before.before.before.before.before.before.before) c.args.members.now
+        as_before c12.before.before.before.before.before.before.before.before,
+        searching-found (before c36.before.before.before.before.before.before.before.before.before) c.args.witness.positive
+            c.args.witness.negative (ms c36.before.before.before.before.before.before.before.before.before) c.args.members.now
             c.args.struck.now c.args.many c.requires.fact.4 c.requires.fact.5 c.loop-i.i
-            (more c.before.before.before.before.before.before.before.before.before.before.before.before.before.before.before.before.before.before.before.before) c.loop-i.invariant.1
-            (sym (told c.before.before.before.before.before.before.before.before.before.before.before.before.before.before.before.before.before.before.before.before) ∙ sym (not-not c.passes.result) ∙ ap not c.if-not-passes.true-raw),
+            (more c12.before.before.before.before.before.before.before.before) c.loop-i.invariant.1
+            (sym (told c12.before.before.before.before.before.before.before.before) ∙ sym (not-not c.passes.result)
+            ∙ ap not c.if-not-passes.true-raw),
       );
       marks_after = unmarked-again
-          c.before.before.before.before.before.before.before.before.before.before.before.before.before.before.before.before.before.before.before.before;
+          c12.before.before.before.before.before.before.before.before;
     }
 
 pub overflow_add-i : goal.overflow_add-i
 overflow_add-i c =
-    let a = c.before.before.before.before.before.before.before.before.before.before.before.before.before.before.before.before.before.before.before.before in omega (arith, more c.before.before.before.before.before.before.before.before.before.before.before.before.before.before.before.before.before.before.before.before, a.requires.fact.7)
+    let c12 = c.before.before.before.before.before.before.before.before.before.before.before.before in
+    let a = c12.before.before.before.before.before.before.before.before in
+    omega (arith, more c12.before.before.before.before.before.before.before.before, a.requires.fact.7)
 
 pub loop-i-smaller : goal.loop-i-smaller
 loop-i-smaller c =
-    omega (arith, more c.before.before.before.before.before.before.before.before.before.before.before.before.before.before.before.before.before.before.before.before)
+    let c12 = c.before.before.before.before.before.before.before.before.before.before.before.before in
+    omega (arith, more c12.before.before.before.before.before.before.before.before)
 
 pub loop-i-preserved : goal.loop-i-preserved
-loop-i-preserved c = (
-  as_before c.before.before.before.before.before.before.before.before.before.before.before.before.before.before.before.before.before.before.before.before,
-  searching-on (before c.before.before.before.before.before.before.before.before.before.before.before.before.before.before.before.before.before.before.before.before.before.before.before.before.before.before.before.before.before.before.before.before.before.before.before.before.before.before.before.before.before.before.before.before.before) c.args.witness.positive c.args.witness.negative (ms c.before.before.before.before.before.before.before.before.before.before.before.before.before.before.before.before.before.before.before.before.before.before.before.before.before.before.before.before.before.before.before.before.before.before.before.before.before.before.before.before.before.before.before.before.before) c.args.members.now
-      c.args.struck.now c.args.many c.requires.fact.4 c.requires.fact.5 c.loop-i.i
-      (more c.before.before.before.before.before.before.before.before.before.before.before.before.before.before.before.before.before.before.before.before) c.loop-i.invariant.1
-      (sym (told c.before.before.before.before.before.before.before.before.before.before.before.before.before.before.before.before.before.before.before.before) ∙ sym (not-not c.passes.result) ∙ ap not c.if-not-passes.false-raw),
-  unmarked-again c.before.before.before.before.before.before.before.before.before.before.before.before.before.before.before.before.before.before.before.before,
-  c.passes.auto.memo ∙ c.loop-i.invariant.3,
-  c.passes.auto.second ∙ c.loop-i.invariant.4,
-  c.passes.auto.secondwords ∙ c.loop-i.invariant.5,
-)
+loop-i-preserved c =
+    let c12 = c.before.before.before.before.before.before.before.before.before.before.before.before in
+    let c24 = c12.before.before.before.before.before.before.before.before.before.before.before.before in
+    let c36 = c24.before.before.before.before.before.before.before.before.before.before.before.before in (
+      as_before c12.before.before.before.before.before.before.before.before,
+      searching-on (before c36.before.before.before.before.before.before.before.before.before) c.args.witness.positive
+          c.args.witness.negative
+          (ms c36.before.before.before.before.before.before.before.before.before) c.args.members.now
+          c.args.struck.now c.args.many c.requires.fact.4 c.requires.fact.5 c.loop-i.i
+          (more c12.before.before.before.before.before.before.before.before) c.loop-i.invariant.1
+          (sym (told c12.before.before.before.before.before.before.before.before) ∙ sym (not-not c.passes.result)
+          ∙ ap not c.if-not-passes.false-raw),
+      unmarked-again c12.before.before.before.before.before.before.before.before,
+      c.passes.auto.memo ∙ c.loop-i.invariant.3,
+      c.passes.auto.second ∙ c.loop-i.invariant.4,
+      c.passes.auto.secondwords ∙ c.loop-i.invariant.5,
+    )
 
 pub shape_of-vars : goal.shape_of-vars
 shape_of-vars c =
@@ -224,17 +244,18 @@ shape_of-secondwords c =
 
 pub returns : goal.returns
 returns c =
+    let c12 = c.before.before.before.before.before.before.before.before.before.before.before.before in
     record {
       fact_3 = absurd (searching-end
-          (before c.before.before.before.before.before.before.before.before.before.before.before.before.before.before.before.before)
+          (before c12.before.before.before.before)
           c.args.witness.positive c.args.witness.negative
-          (ms c.before.before.before.before.before.before.before.before.before.before.before.before.before.before.before.before)
+          (ms c12.before.before.before.before)
           c.args.members.now
           c.args.struck.now c.args.many c.requires.fact.4 c.requires.fact.5 c.loop-i.i c.loop-i.invariant.1 c.loop-i-test.false);
       marks_after = absurd (searching-end (before
-          c.before.before.before.before.before.before.before.before.before.before.before.before.before.before.before.before)
+          c12.before.before.before.before)
           c.args.witness.positive c.args.witness.negative
-          (ms c.before.before.before.before.before.before.before.before.before.before.before.before.before.before.before.before)
+          (ms c12.before.before.before.before)
           c.args.members.now
           c.args.struck.now c.args.many c.requires.fact.4 c.requires.fact.5 c.loop-i.i c.loop-i.invariant.1 c.loop-i-test.false);
     }

@@ -36,11 +36,12 @@ module _ (a : lts.After-turn tie.the-claims reads.Pre reads.Post tie.handed_clau
 
 pub returns-then-struck-i-ne0 : goal.returns-then-struck-i-ne0
 returns-then-struck-i-ne0 c =
+    let c12 = c.before.before.before.before.before.before.before.before.before.before.before.before in
     record {
       fact_3 = (
         refl,
         sym (ap (λ (b : Bool). not b
-            || (one c.before.before.before.before.before.before.before.before.before.before.before.before.before.before.before.before).shown)
+            || (one c12.before.before.before.before).shown)
             (ne_eqb _ _ c.if-struck-i-ne0.true)),
       );
       marks_after = c.requires.fact.1;
@@ -48,6 +49,8 @@ returns-then-struck-i-ne0 c =
 
 pub turn-t-requires : goal.turn-t-requires
 turn-t-requires c =
+    let c12 = c.before.before.before.before.before.before.before.before.before.before.before.before in
+    let c24 = c12.before.before.before.before.before.before.before.before.before.before.before.before in
     record {
       fact = (c.requires.fact.0, c.requires.fact.1, c.requires.fact.2, c.requires.fact.6, c.requires.fact.3);
       fact_2 = (
@@ -55,7 +58,7 @@ turn-t-requires c =
           lengths = c.requires.fact_2.0;
           have = c.requires.fact_2.1;
           has = every-support (before
-              c.before.before.before.before.before.before.before.before.before.before.before.before.before.before.before.before.before.before.before.before.before.before.before.before.before.before) c.requires.fact.0.good
+              c24.before.before) c.requires.fact.0.good
               (get_or c.args.members.now c.args.i 0) c.requires.fact.6;
         },
         c.requires.fact_2.2,
@@ -64,8 +67,10 @@ turn-t-requires c =
 
 pub drop_to-requires : goal.drop_to-requires
 drop_to-requires c =
-    let a = c.before.before.before.before.before.before.before.before.before.before.before.before.before.before.before.before.before.before.before.before.before.before.before.before in
-    let E = (said c.before.before.before.before.before.before.before.before.before.before.before.before.before.before.before.before.before.before.before.before.before.before.before.before).extended in
+    let c12 = c.before.before.before.before.before.before.before.before.before.before.before.before in
+    let c24 = c12.before.before.before.before.before.before.before.before.before.before.before.before in
+    let a = c24 in
+    let E = (said c24).extended in
     (E.good, a.requires.fact.0.good.least, E.more)
 
 pub shape_of-vars : goal.shape_of-vars
@@ -111,14 +116,23 @@ shape_of-secondwords c =
 
 pub returns : goal.returns
 returns c =
+    let c12 = c.before.before.before.before.before.before.before.before.before.before.before.before in
+    let c24 = c12.before.before.before.before.before.before.before.before.before.before.before.before in
+    let c36 = c24.before.before.before.before.before.before.before.before.before.before.before.before in
+    let c48 = c36.before.before.before.before.before.before.before.before.before.before.before.before in
+    let c60 = c48.before.before.before.before.before.before.before.before.before.before.before.before in
     let live = eq-eqb _ _ c.if-struck-i-ne0.false in record {
       fact_3 = (
         c.drop_to.ensures
-            ∙ undone (before c.before.before.before.before.before.before.before.before.before.before.before.before.before.before.before.before.before.before.before.before.before.before.before.before.before.before.before.before.before.before.before.before.before.before.before.before.before.before.before.before.before.before.before.before.before.before.before.before.before.before.before.before.before.before.before.before.before.before.before.before.before) c.requires.fact.0.good (table₁ c.before.before.before.before.before.before.before.before.before.before.before.before.before.before.before.before.before.before.before.before.before.before.before.before.before.before.before.before.before.before.before.before.before.before.before)
-            (extended-longer (before c.before.before.before.before.before.before.before.before.before.before.before.before.before.before.before.before.before.before.before.before.before.before.before.before.before.before.before.before.before.before.before.before.before.before.before.before.before.before.before.before.before.before.before.before.before.before.before.before.before.before.before.before.before.before.before.before.before.before.before.before.before) (table₁ c.before.before.before.before.before.before.before.before.before.before.before.before.before.before.before.before.before.before.before.before.before.before.before.before.before.before.before.before.before.before.before.before.before.before.before) c.requires.fact.0.good (said c.before.before.before.before.before.before.before.before.before.before.before.before.before.before.before.before.before.before.before.before.before.before.before.before.before.before.before.before.before.before.before.before.before.before.before).extended),
-        says-fits (before c.before.before.before.before.before.before.before.before.before.before.before.before.before.before.before.before.before.before.before.before.before.before.before.before.before.before.before.before.before.before.before.before.before.before.before.before.before.before.before.before.before.before.before.before.before.before.before.before.before.before.before.before.before.before.before.before.before.before.before.before.before) (one c.before.before.before.before.before.before.before.before.before.before.before.before.before.before.before.before.before.before.before.before.before.before.before.before.before.before.before.before.before.before.before.before.before.before.before.before.before.before.before.before.before.before.before.before.before.before.before.before.before.before.before.before.before.before.before.before.before.before.before.before.before) 64 c.turn-t.result (table₁ c.before.before.before.before.before.before.before.before.before.before.before.before.before.before.before.before.before.before.before.before.before.before.before.before.before.before.before.before.before.before.before.before.before.before.before) (said c.before.before.before.before.before.before.before.before.before.before.before.before.before.before.before.before.before.before.before.before.before.before.before.before.before.before.before.before.before.before.before.before.before.before.before) (c.requires.fact_2.3 live)
+            ∙ undone (before c60.before) c.requires.fact.0.good
+            (table₁ c24.before.before.before.before.before.before.before.before.before.before.before)
+            (extended-longer (before c60.before) (table₁ c24.before.before.before.before.before.before.before.before.before.before.before)
+            c.requires.fact.0.good (said c24.before.before.before.before.before.before.before.before.before.before.before).extended),
+        says-fits (before c60.before) (one c60.before) 64 c.turn-t.result
+            (table₁ c24.before.before.before.before.before.before.before.before.before.before.before)
+            (said c24.before.before.before.before.before.before.before.before.before.before.before) (c.requires.fact_2.3 live)
             ∙ sym (ap (λ (b : Bool). not b || (one
-            c.before.before.before.before.before.before.before.before.before.before.before.before.before.before.before.before.before.before.before.before.before.before.before.before.before.before.before.before.before.before.before.before.before.before.before.before.before.before.before.before.before.before.before.before.before.before.before.before.before.before.before.before.before.before.before.before.before.before.before.before.before).shown) live),
+            c60.before).shown) live),
       );
       marks_after = c.turn-t.ensures.marks_after;
     }

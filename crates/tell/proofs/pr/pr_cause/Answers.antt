@@ -72,10 +72,12 @@ module _ (c : lts.After-live_members tie.the-claims reads.Pre reads.Post tie.han
 
   gathered-ready : Negatable (before c.before.before.before.before.before.before.before.before.before.before.before.before.before) gathered
       c.args.memo.now c.args.g.0
-  gathered-ready = subst (λ (ks : List ℕ). Negatable
-      (before c.before.before.before.before.before.before.before.before.before.before.before.before.before) ks c.args.memo.now c.args.g.0)
+  gathered-ready =
+      let c12 = c.before.before.before.before.before.before.before.before.before.before.before.before in
+      subst (λ (ks : List ℕ). Negatable
+      (before c12.before) ks c.args.memo.now c.args.g.0)
       (sym gathered-is)
-      (ready c.before.before.before.before.before.before.before.before.before.before.before.before.before)
+      (ready c12.before)
 
 pub live_members-m-requires : goal.live_members-m-requires
 live_members-m-requires c = (
@@ -115,61 +117,69 @@ slice_bounds-firstwords-end c =
 
 pub slice_bounds-pr_over-end-5 : goal.slice_bounds-pr_over-end-5
 slice_bounds-pr_over-end-5 c =
-    sym (own-length c.before.before.before.before.before.before.before.before.before.before.before.before.before)
+    let c12 = c.before.before.before.before.before.before.before.before.before.before.before.before in
+    sym (own-length c12.before)
 
 pub slice_bounds-second-end : goal.slice_bounds-second-end
 slice_bounds-second-end c =
-    omega (arith, few c.before.before.before.before.before.before.before.before.before.before.before.before.before)
+    let c12 = c.before.before.before.before.before.before.before.before.before.before.before.before in
+    omega (arith, few c12.before)
 
 pub slice_bounds-pr_over-end-6 : goal.slice_bounds-pr_over-end-6
 slice_bounds-pr_over-end-6 c =
-    sym (own-length c.before.before.before.before.before.before.before.before.before.before.before.before.before.before)
+    let c12 = c.before.before.before.before.before.before.before.before.before.before.before.before in
+    sym (own-length c12.before.before)
 
 pub slice_bounds-secondwords-end : goal.slice_bounds-secondwords-end
 slice_bounds-secondwords-end c =
-    omega (arith, few c.before.before.before.before.before.before.before.before.before.before.before.before.before.before)
+    let c12 = c.before.before.before.before.before.before.before.before.before.before.before.before in
+    omega (arith, few c12.before.before)
 
 pub slice_bounds-pr_over-end-7 : goal.slice_bounds-pr_over-end-7
 slice_bounds-pr_over-end-7 c =
-    sym (own-length c.before.before.before.before.before.before.before.before.before.before.before.before.before.before.before)
+    let c12 = c.before.before.before.before.before.before.before.before.before.before.before.before in
+    sym (own-length c12.before.before.before)
 
 pub pr_over-requires : goal.pr_over-requires
 pr_over-requires c =
-    let B = before c.before.before.before.before.before.before.before.before.before.before.before.before.before.before.before.before.before.before.before.before.before.before.before.before.before.before.before.before.before in
-    let own = own-length c.before.before.before.before.before.before.before.before.before.before.before.before.before.before.before.before
+    let c12 = c.before.before.before.before.before.before.before.before.before.before.before.before in
+    let c24 = c12.before.before.before.before.before.before.before.before.before.before.before.before in
+    let B = before c24.before.before.before.before.before in
+    let own = own-length c12.before.before.before.before
     ∙ sym (gathered-length
-    c.before.before.before.before.before.before.before.before.before.before.before.before.before.before.before.before) in record {
+    c12.before.before.before.before) in record {
       fact = (
-        gathered-ready c.before.before.before.before.before.before.before.before.before.before.before.before.before.before.before.before,
+        gathered-ready c12.before.before.before.before,
         c.requires.fact.1,
-        scratch-length c.before.before.before.before.before.before.before.before.before.before.before.before.before.before.before.before
+        scratch-length c12.before.before.before.before
             ∙ sym (gathered-length
-            c.before.before.before.before.before.before.before.before.before.before.before.before.before.before.before.before),
+            c12.before.before.before.before),
         own,
         omega (
           arith,
           gathered-length
-              c.before.before.before.before.before.before.before.before.before.before.before.before.before.before.before.before,
-          few c.before.before.before.before.before.before.before.before.before.before.before.before.before.before.before.before,
+              c12.before.before.before.before,
+          few c12.before.before.before.before,
         ),
         omega (arith, c.requires.fact.2, c.requires.fact.3),
         omega (arith, c.requires.fact.2, c.requires.fact.3, c.requires.fact.5),
         c.requires.fact.0.ready.inside,
         c.requires.fact.2,
-        gathered-is c.before.before.before.before.before.before.before.before.before.before.before.before.before.before.before.before,
+        gathered-is c12.before.before.before.before,
       );
       fact_2 = (
-        ones-length c.before.before.before.before.before.before.before.before.before.before.before.before.before.before.before.before
+        ones-length c12.before.before.before.before
             ∙ sym (gathered-length
-            c.before.before.before.before.before.before.before.before.before.before.before.before.before.before.before.before),
+            c12.before.before.before.before),
         ones-support B c.requires.fact.0.ready.good
-            (gathered c.before.before.before.before.before.before.before.before.before.before.before.before.before.before.before.before)
-            (gathered-ready c.before.before.before.before.before.before.before.before.before.before.before.before.before.before.before.before).ready.inside (m c.before.before.before.before.before.before.before.before.before.before.before.before.before.before.before.before) (gathered-length c.before.before.before.before.before.before.before.before.before.before.before.before.before.before.before.before) (few c.before.before.before.before.before.before.before.before.before.before.before.before.before.before.before.before),
+            (gathered c12.before.before.before.before)
+            (gathered-ready c12.before.before.before.before).ready.inside (m c12.before.before.before.before)
+            (gathered-length c12.before.before.before.before) (few c12.before.before.before.before),
         own,
         own,
         subst (λ (ks : List ℕ). Unshown B (pr 64 (in_word c.args.witness.positive) (in_word c.args.witness.negative)
             (diagrams_of (nodes_of B) ks) (root
-            c.before.before.before.before.before.before.before.before.before.before.before.before.before.before.before.before.before.before.before.before.before.before.before.before.before.before.before.before.before))) (sym (gathered-is c.before.before.before.before.before.before.before.before.before.before.before.before.before.before.before.before)) c.requires.fact.6,
+            c24.before.before.before.before.before))) (sym (gathered-is c12.before.before.before.before)) c.requires.fact.6,
         c.requires.in_bounds.0,
         c.requires.in_bounds.1,
       );
@@ -209,14 +219,19 @@ shape_of-fixed c =
 
 pub returns : goal.returns
 returns c =
-    let B = before c.before.before.before.before.before.before.before.before.before.before.before.before.before.before.before.before.before.before.before.before.before.before.before.before.before.before.before.before.before.before.before.before.before.before.before.before.before.before.before.before.before.before.before.before.before.before.before.before.before.before.before in
+    let c12 = c.before.before.before.before.before.before.before.before.before.before.before.before in
+    let c24 = c12.before.before.before.before.before.before.before.before.before.before.before.before in
+    let c36 = c24.before.before.before.before.before.before.before.before.before.before.before.before in
+    let c48 = c36.before.before.before.before.before.before.before.before.before.before.before.before in
+    let B = before c48.before.before.before in
     record {
       fact_2 = (
         c.pr_over.ensures.fact_3.0,
         subst (λ (ks : List ℕ). PrTold (nodes_of B) c.args.witness.positive c.args.witness.negative
-            (by_not (root c.before.before.before.before.before.before.before.before.before.before.before.before.before.before.before.before.before.before.before.before.before.before.before.before.before.before.before.before.before.before.before.before.before.before.before.before.before.before.before.before.before.before.before.before.before.before.before.before.before.before.before) (diagrams_of (nodes_of B) ks)) c.args.members.now c.args.struck.now c.args.many c.pr_over.result.member
+            (by_not (root c48.before.before.before) (diagrams_of (nodes_of B) ks)) c.args.members.now c.args.struck.now c.args.many
+            c.pr_over.result.member
             c.pr_over.result.rounds c.pr_over.new.fixed)
-            (gathered-is c.before.before.before.before.before.before.before.before.before.before.before.before.before.before.before.before.before.before.before.before.before.before.before.before.before.before.before.before.before.before.before.before.before.before.before.before.before.before) c.pr_over.ensures.fact_3.1,
+            (gathered-is c36.before.before) c.pr_over.ensures.fact_3.1,
       );
       marks_after = c.pr_over.ensures.marks_after;
     }

@@ -42,39 +42,56 @@ clear_memo-requires c =
 
 pub apply-h-requires : goal.apply-h-requires
 apply-h-requires c =
-    literals-ready (before c.before.before.before.before.before.before.before.before.before.before.before.before.before.before.before.before.before.before.before.before.before.before) c.args.first.now c.args.memo.now c.requires.fact.0 c.args.f.0 c.args.witness.positive
+    let c12 = c.before.before.before.before.before.before.before.before.before.before.before.before in
+    literals-ready (before c12.before.before.before.before.before.before.before.before.before.before) c.args.first.now c.args.memo.now
+    c.requires.fact.0 c.args.f.0 c.args.witness.positive
     c.args.witness.negative c.requires.fact.3 c.clear_memo.new.memo
     (empty_right c.clear_memo.ensures (Literals c.args.witness.positive c.args.witness.negative)
-    (before c.before.before.before.before.before.before.before.before.before.before.before.before.before.before.before.before.before.before.before.before.before.before))
+    (before c12.before.before.before.before.before.before.before.before.before.before))
 
 pub trace_by-t-requires : goal.trace_by-t-requires
 trace_by-t-requires c =
+    let c12 = c.before.before.before.before.before.before.before.before.before.before.before.before in
+    let c24 = c12.before.before.before.before.before.before.before.before.before.before.before.before in
+    let c36 = c24.before.before.before.before.before.before.before.before.before.before.before.before in
     let other = turn-other (before
-    c.before.before.before.before.before.before.before.before.before.before.before.before.before.before.before.before.before.before.before.before.before.before.before.before.before.before.before.before.before.before.before.before.before.before.before.before.before.before.before.before.before.before.before.before.before) c.args.first.now c.args.memo.now c.requires.fact.0 c.args.f.0 c.args.witness.positive
+    c36.before.before.before.before.before.before.before.before.before) c.args.first.now c.args.memo.now c.requires.fact.0 c.args.f.0
+    c.args.witness.positive
     c.args.witness.negative c.requires.fact.3 c.requires.fact.7 in
     let room = turn-room (before
-    c.before.before.before.before.before.before.before.before.before.before.before.before.before.before.before.before.before.before.before.before.before.before.before.before.before.before.before.before.before.before.before.before.before.before.before.before.before.before.before.before.before.before.before.before.before) c.args.first.now c.args.memo.now c.requires.fact.0 c.args.f.0 c.args.witness.positive
+    c36.before.before.before.before.before.before.before.before.before) c.args.first.now c.args.memo.now c.requires.fact.0 c.args.f.0
+    c.args.witness.positive
     c.args.witness.negative c.requires.fact.3 c.requires.fact.7
-    (made c.before.before.before.before.before.before.before.before.before.before.before.before.before.before.before.before.before.before.before.before.before.before.before) (made-is c.before.before.before.before.before.before.before.before.before.before.before.before.before.before.before.before.before.before.before.before.before.before.before) in record {
+    (made c12.before.before.before.before.before.before.before.before.before.before.before)
+    (made-is c12.before.before.before.before.before.before.before.before.before.before.before) in record {
       fact = (
-        turn-ready (before c.before.before.before.before.before.before.before.before.before.before.before.before.before.before.before.before.before.before.before.before.before.before.before.before.before.before.before.before.before.before.before.before.before.before.before.before.before.before.before.before.before.before.before.before.before) c.args.first.now c.args.memo.now c.requires.fact.0 c.args.f.0 c.args.witness.positive
+        turn-ready (before c36.before.before.before.before.before.before.before.before.before) c.args.first.now c.args.memo.now
+            c.requires.fact.0 c.args.f.0 c.args.witness.positive
             c.args.witness.negative c.requires.fact.3 other
-            (made c.before.before.before.before.before.before.before.before.before.before.before.before.before.before.before.before.before.before.before.before.before.before.before) (made-is c.before.before.before.before.before.before.before.before.before.before.before.before.before.before.before.before.before.before.before.before.before.before.before) room c.apply-h.new.memo (memo-length c.before.before.before.before.before.before.before.before.before.before.before.before.before.before.before.before.before.before.before.before.before.before.before),
+            (made c12.before.before.before.before.before.before.before.before.before.before.before)
+            (made-is c12.before.before.before.before.before.before.before.before.before.before.before) room c.apply-h.new.memo
+            (memo-length c12.before.before.before.before.before.before.before.before.before.before.before),
         c.requires.fact.1,
         c.requires.fact.2,
-        turn-calm (before c.before.before.before.before.before.before.before.before.before.before.before.before.before.before.before.before.before.before.before.before.before.before.before.before.before.before.before.before.before.before.before.before.before.before.before.before.before.before.before.before.before.before.before.before.before) c.args.first.now c.args.memo.now c.requires.fact.0 c.args.f.0 c.args.witness.positive
+        turn-calm (before c36.before.before.before.before.before.before.before.before.before) c.args.first.now c.args.memo.now
+            c.requires.fact.0 c.args.f.0 c.args.witness.positive
             c.args.witness.negative c.requires.fact.3 c.requires.fact.7
-            (made c.before.before.before.before.before.before.before.before.before.before.before.before.before.before.before.before.before.before.before.before.before.before.before) (made-is c.before.before.before.before.before.before.before.before.before.before.before.before.before.before.before.before.before.before.before.before.before.before.before),
+            (made c12.before.before.before.before.before.before.before.before.before.before.before)
+            (made-is c12.before.before.before.before.before.before.before.before.before.before.before),
       );
       fact_2 = (
-        turn-worded (before c.before.before.before.before.before.before.before.before.before.before.before.before.before.before.before.before.before.before.before.before.before.before.before.before.before.before.before.before.before.before.before.before.before.before.before.before.before.before.before.before.before.before.before.before.before) c.args.first.now c.args.memo.now c.requires.fact.0 c.args.f.0 c.args.witness.positive
+        turn-worded (before c36.before.before.before.before.before.before.before.before.before) c.args.first.now c.args.memo.now
+            c.requires.fact.0 c.args.f.0 c.args.witness.positive
             c.args.witness.negative c.requires.fact.3 other
-            (made c.before.before.before.before.before.before.before.before.before.before.before.before.before.before.before.before.before.before.before.before.before.before.before) (made-is c.before.before.before.before.before.before.before.before.before.before.before.before.before.before.before.before.before.before.before.before.before.before.before) room c.args.firstwords.now 18446744073709551615
+            (made c12.before.before.before.before.before.before.before.before.before.before.before)
+            (made-is c12.before.before.before.before.before.before.before.before.before.before.before) room c.args.firstwords.now
+            18446744073709551615
             (record {
               lengths = c.requires.fact.4;
               have = c.requires.fact.5;
               has =
-                  every-support (before c.before.before.before.before.before.before.before.before.before.before.before.before.before.before.before.before.before.before.before.before.before.before.before.before.before.before.before.before.before.before.before.before.before.before.before.before.before.before.before.before.before.before.before.before.before) c.requires.fact.0.good c.args.f.0 c.requires.fact.3;
+                  every-support (before c36.before.before.before.before.before.before.before.before.before) c.requires.fact.0.good
+                  c.args.f.0 c.requires.fact.3;
             }),
         c.requires.fact.6,
       );
@@ -83,10 +100,17 @@ trace_by-t-requires c =
 
 pub drop_to-requires : goal.drop_to-requires
 drop_to-requires c =
+    let c12 = c.before.before.before.before.before.before.before.before.before.before.before.before in
+    let c24 = c12.before.before.before.before.before.before.before.before.before.before.before.before in
+    let c36 = c24.before.before.before.before.before.before.before.before.before.before.before.before in
+    let c48 = c36.before.before.before.before.before.before.before.before.before.before.before.before in
+    let c60 = c48.before.before.before.before.before.before.before.before.before.before.before.before in
     let E = turn_more (before
-    c.before.before.before.before.before.before.before.before.before.before.before.before.before.before.before.before.before.before.before.before.before.before.before.before.before.before.before.before.before.before.before.before.before.before.before.before.before.before.before.before.before.before.before.before.before.before.before.before.before.before.before.before.before.before.before.before.before.before.before.before.before.before.before.before.before.before.before.before.before) c.args.first.now c.args.memo.now c.requires.fact.0 c.args.f.0 c.args.witness.positive
+    c60.before.before.before.before.before.before.before.before.before) c.args.first.now c.args.memo.now c.requires.fact.0 c.args.f.0
+    c.args.witness.positive
     c.args.witness.negative c.requires.fact.3 c.requires.fact.7
-    (made c.before.before.before.before.before.before.before.before.before.before.before.before.before.before.before.before.before.before.before.before.before.before.before.before.before.before.before.before.before.before.before.before.before.before.before.before.before.before.before.before.before.before.before.before.before.before.before) (made-is c.before.before.before.before.before.before.before.before.before.before.before.before.before.before.before.before.before.before.before.before.before.before.before.before.before.before.before.before.before.before.before.before.before.before.before.before.before.before.before.before.before.before.before.before.before.before.before) c.trace_by-t.result (table₁ c.before.before.before.before.before.before.before.before.before.before.before.before.before.before.before.before.before.before.before.before.before.before.before.before)
+    (made c36.before.before.before.before.before.before.before.before.before.before.before)
+    (made-is c36.before.before.before.before.before.before.before.before.before.before.before) c.trace_by-t.result (table₁ c24)
     c.trace_by-t.new.fixed c.trace_by-t.ensures in
     (E.good, c.requires.fact.0.good.least, E.more)
 
@@ -120,8 +144,12 @@ shape_of-links c =
 
 pub shape_of-memo : goal.shape_of-memo
 shape_of-memo c =
+    let c12 = c.before.before.before.before.before.before.before.before.before.before.before.before in
+    let c24 = c12.before.before.before.before.before.before.before.before.before.before.before.before in
+    let c36 = c24.before.before.before.before.before.before.before.before.before.before.before.before in
+    let c48 = c36.before.before.before.before.before.before.before.before.before.before.before.before in
     c.trace_by-t.auto.memo ∙ memo-length
-    c.before.before.before.before.before.before.before.before.before.before.before.before.before.before.before.before.before.before.before.before.before.before.before.before.before.before.before.before.before.before.before.before.before.before.before.before.before.before.before.before.before.before.before.before.before.before.before.before.before.before.before.before.before.before.before.before.before.before
+    c48.before.before.before.before.before.before.before.before.before.before
 
 pub shape_of-second : goal.shape_of-second
 shape_of-second c =
@@ -136,14 +164,26 @@ shape_of-fixed c =
     c.trace_by-t.auto.fixed
 
 pub returns : goal.returns
-returns c = (
-  turn-undone (before c.before.before.before.before.before.before.before.before.before.before.before.before.before.before.before.before.before.before.before.before.before.before.before.before.before.before.before.before.before.before.before.before.before.before.before.before.before.before.before.before.before.before.before.before.before.before.before.before.before.before.before.before.before.before.before.before.before.before.before.before.before.before.before.before.before.before.before.before.before.before.before.before.before.before.before.before.before.before.before.before) c.args.first.now c.args.memo.now c.requires.fact.0 c.args.f.0 c.args.witness.positive
-      c.args.witness.negative c.requires.fact.3 c.requires.fact.7
-      (made c.before.before.before.before.before.before.before.before.before.before.before.before.before.before.before.before.before.before.before.before.before.before.before.before.before.before.before.before.before.before.before.before.before.before.before.before.before.before.before.before.before.before.before.before.before.before.before.before.before.before.before.before.before.before.before.before.before.before) (made-is c.before.before.before.before.before.before.before.before.before.before.before.before.before.before.before.before.before.before.before.before.before.before.before.before.before.before.before.before.before.before.before.before.before.before.before.before.before.before.before.before.before.before.before.before.before.before.before.before.before.before.before.before.before.before.before.before.before.before) c.trace_by-t.result (table₁ c.before.before.before.before.before.before.before.before.before.before.before.before.before.before.before.before.before.before.before.before.before.before.before.before.before.before.before.before.before.before.before.before.before.before.before)
-      c.trace_by-t.new.fixed c.trace_by-t.ensures _
-      c.drop_to.ensures,
-  turn-fixed (before c.before.before.before.before.before.before.before.before.before.before.before.before.before.before.before.before.before.before.before.before.before.before.before.before.before.before.before.before.before.before.before.before.before.before.before.before.before.before.before.before.before.before.before.before.before.before.before.before.before.before.before.before.before.before.before.before.before.before.before.before.before.before.before.before.before.before.before.before.before.before.before.before.before.before.before.before.before.before.before.before) c.args.first.now c.args.memo.now c.requires.fact.0 c.args.f.0 c.args.witness.positive
-      c.args.witness.negative c.requires.fact.3 c.requires.fact.7
-      (made c.before.before.before.before.before.before.before.before.before.before.before.before.before.before.before.before.before.before.before.before.before.before.before.before.before.before.before.before.before.before.before.before.before.before.before.before.before.before.before.before.before.before.before.before.before.before.before.before.before.before.before.before.before.before.before.before.before.before) (made-is c.before.before.before.before.before.before.before.before.before.before.before.before.before.before.before.before.before.before.before.before.before.before.before.before.before.before.before.before.before.before.before.before.before.before.before.before.before.before.before.before.before.before.before.before.before.before.before.before.before.before.before.before.before.before.before.before.before.before) c.trace_by-t.result (table₁ c.before.before.before.before.before.before.before.before.before.before.before.before.before.before.before.before.before.before.before.before.before.before.before.before.before.before.before.before.before.before.before.before.before.before.before)
-      c.trace_by-t.new.fixed c.trace_by-t.ensures,
-)
+returns c =
+    let c12 = c.before.before.before.before.before.before.before.before.before.before.before.before in
+    let c24 = c12.before.before.before.before.before.before.before.before.before.before.before.before in
+    let c36 = c24.before.before.before.before.before.before.before.before.before.before.before.before in
+    let c48 = c36.before.before.before.before.before.before.before.before.before.before.before.before in
+    let c60 = c48.before.before.before.before.before.before.before.before.before.before.before.before in
+    let c72 = c60.before.before.before.before.before.before.before.before.before.before.before.before in (
+      turn-undone (before c72.before.before.before.before.before.before.before.before) c.args.first.now c.args.memo.now c.requires.fact.0
+          c.args.f.0 c.args.witness.positive
+          c.args.witness.negative c.requires.fact.3 c.requires.fact.7
+          (made c48.before.before.before.before.before.before.before.before.before.before)
+          (made-is c48.before.before.before.before.before.before.before.before.before.before) c.trace_by-t.result
+          (table₁ c24.before.before.before.before.before.before.before.before.before.before.before)
+          c.trace_by-t.new.fixed c.trace_by-t.ensures _
+          c.drop_to.ensures,
+      turn-fixed (before c72.before.before.before.before.before.before.before.before) c.args.first.now c.args.memo.now c.requires.fact.0
+          c.args.f.0 c.args.witness.positive
+          c.args.witness.negative c.requires.fact.3 c.requires.fact.7
+          (made c48.before.before.before.before.before.before.before.before.before.before)
+          (made-is c48.before.before.before.before.before.before.before.before.before.before) c.trace_by-t.result
+          (table₁ c24.before.before.before.before.before.before.before.before.before.before.before)
+          c.trace_by-t.new.fixed c.trace_by-t.ensures,
+    )

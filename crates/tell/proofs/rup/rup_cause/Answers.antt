@@ -74,10 +74,13 @@ module _ (c : lts.After-rup_traced tie.the-claims reads.Pre reads.Post tie.hande
   traced : LineTraced (before
       c.before.before.before.before.before.before.before.before.before.before.before.before.before.before.before.before.before.before.before.before.before.before.before.before.before) (diagrams_of (nodes_of (before c.before.before.before.before.before.before.before.before.before.before.before.before.before.before.before.before.before.before.before.before.before.before.before.before.before)) (live c.before.before.before.before.before.before.before.before.before.before.before.before.before.before.before.before.before.before.before.before.before.before.before.before.before)) (root c.before.before.before.before.before.before.before.before.before.before.before.before.before.before.before.before.before.before.before.before.before.before.before.before.before) c.rup_traced-t.result table₁
       c.rup_traced-t.new.fixed
-  traced = subst (λ (ms : List ℕ). LineTraced (before
-      c.before.before.before.before.before.before.before.before.before.before.before.before.before.before.before.before.before.before.before.before.before.before.before.before.before) (diagrams_of (nodes_of (before c.before.before.before.before.before.before.before.before.before.before.before.before.before.before.before.before.before.before.before.before.before.before.before.before.before)) ms) (root c.before.before.before.before.before.before.before.before.before.before.before.before.before.before.before.before.before.before.before.before.before.before.before.before.before) c.rup_traced-t.result
+  traced =
+      let c12 = c.before.before.before.before.before.before.before.before.before.before.before.before in
+      let c24 = c12.before.before.before.before.before.before.before.before.before.before.before.before in
+      subst (λ (ms : List ℕ). LineTraced (before
+      c24.before) (diagrams_of (nodes_of (before c24.before)) ms) (root c24.before) c.rup_traced-t.result
       table₁ c.rup_traced-t.new.fixed)
-      (gathered-is c.before.before.before.before.before.before.before.before.before.before.before.before.before) c.rup_traced-t.ensures
+      (gathered-is c12.before) c.rup_traced-t.ensures
 
 pub live_members-m-requires : goal.live_members-m-requires
 live_members-m-requires c = (
@@ -121,37 +124,41 @@ slice_bounds-rup_traced-end-5 c =
 
 pub rup_traced-t-requires : goal.rup_traced-t-requires
 rup_traced-t-requires c =
-    let B = before c.before.before.before.before.before.before.before.before.before.before.before.before.before.before.before.before.before.before.before.before.before.before.before.before.before in record {
+    let c12 = c.before.before.before.before.before.before.before.before.before.before.before.before in
+    let c24 = c12.before.before.before.before.before.before.before.before.before.before.before.before in
+    let B = before c24.before in record {
       fact = (
         subst (λ (ms : List ℕ). Negatable B ms c.args.memo.now c.args.g.0)
-            (sym (gathered-is c.before.before.before.before.before.before.before.before.before.before.before.before.before))
-            (ready c.before.before.before.before.before.before.before.before.before.before.before.before.before.before.before.before.before.before.before.before.before.before.before.before.before),
-        scratch-length c.before.before.before.before.before.before.before.before.before.before.before.before.before
-            ∙ sym (gathered-length c.before.before.before.before.before.before.before.before.before.before.before.before.before),
+            (sym (gathered-is c12.before))
+            (ready c24.before),
+        scratch-length c12.before
+            ∙ sym (gathered-length c12.before),
         omega (
           arith,
-          gathered-length c.before.before.before.before.before.before.before.before.before.before.before.before.before,
-          few c.before.before.before.before.before.before.before.before.before.before.before.before.before,
+          gathered-length c12.before,
+          few c12.before,
         ),
         rup-calm B (diagrams_of (nodes_of B) (gathered
-            c.before.before.before.before.before.before.before.before.before.before.before.before.before))
-            (root c.before.before.before.before.before.before.before.before.before.before.before.before.before.before.before.before.before.before.before.before.before.before.before.before.before)
+            c12.before))
+            (root c24.before)
             (subst (λ (ms : List ℕ). Unshown B (rup 64 (diagrams_of (nodes_of B) ms)
-            (root c.before.before.before.before.before.before.before.before.before.before.before.before.before.before.before.before.before.before.before.before.before.before.before.before.before))) (sym (gathered-is c.before.before.before.before.before.before.before.before.before.before.before.before.before)) c.requires.fact.5),
+            (root c24.before))) (sym (gathered-is c12.before)) c.requires.fact.5),
       );
       memberwords_len = (
-        own-length c.before.before.before.before.before.before.before.before.before.before.before.before.before
-            ∙ sym (gathered-length c.before.before.before.before.before.before.before.before.before.before.before.before.before),
-        own-length c.before.before.before.before.before.before.before.before.before.before.before.before.before
-            ∙ sym (gathered-length c.before.before.before.before.before.before.before.before.before.before.before.before.before),
+        own-length c12.before
+            ∙ sym (gathered-length c12.before),
+        own-length c12.before
+            ∙ sym (gathered-length c12.before),
       );
       in_bounds = c.requires.in_bounds;
     }
 
 pub drop_to-requires : goal.drop_to-requires
 drop_to-requires c =
-    let a = c.before.before.before.before.before.before.before.before.before.before.before.before.before.before.before.before.before.before.before.before.before.before.before.before in
-    let E = (traced c.before.before.before.before.before.before.before.before.before.before.before.before.before.before.before.before.before.before.before.before.before.before.before.before).extended in
+    let c12 = c.before.before.before.before.before.before.before.before.before.before.before.before in
+    let c24 = c12.before.before.before.before.before.before.before.before.before.before.before.before in
+    let a = c24 in
+    let E = (traced c24).extended in
     (E.good, a.requires.fact.0.ready.good.least, E.more)
 
 pub shape_of-vars : goal.shape_of-vars
@@ -189,14 +196,21 @@ shape_of-fixed c =
 
 pub returns : goal.returns
 returns c =
-    let B = before c.before.before.before.before.before.before.before.before.before.before.before.before.before.before.before.before.before.before.before.before.before.before.before.before.before.before.before.before.before.before.before.before.before.before.before.before.before.before.before.before.before.before.before.before.before.before.before.before.before.before.before.before.before.before.before.before.before.before.before.before in
+    let c12 = c.before.before.before.before.before.before.before.before.before.before.before.before in
+    let c24 = c12.before.before.before.before.before.before.before.before.before.before.before.before in
+    let c36 = c24.before.before.before.before.before.before.before.before.before.before.before.before in
+    let c48 = c36.before.before.before.before.before.before.before.before.before.before.before.before in
+    let c60 = c48.before.before.before.before.before.before.before.before.before.before.before.before in
+    let B = before c60 in
     let ms = diagrams_of (nodes_of B)
-    (live c.before.before.before.before.before.before.before.before.before.before.before.before.before.before.before.before.before.before.before.before.before.before.before.before.before.before.before.before.before.before.before.before.before.before.before.before.before.before.before.before.before.before.before.before.before.before.before.before.before.before.before.before.before.before.before.before.before.before.before.before) in (
-      rup-undone B ms (root c.before.before.before.before.before.before.before.before.before.before.before.before.before.before.before.before.before.before.before.before.before.before.before.before.before.before.before.before.before.before.before.before.before.before.before.before.before.before.before.before.before.before.before.before.before.before.before.before.before.before.before.before.before.before.before.before.before.before.before.before) c.requires.fact.0.ready.good c.rup_traced-t.result (table₁ c.before.before.before.before.before.before.before.before.before.before.before.before.before.before.before.before.before.before.before.before.before.before.before.before.before.before.before.before.before.before.before.before.before.before.before)
+    (live c60) in (
+      rup-undone B ms (root c60) c.requires.fact.0.ready.good c.rup_traced-t.result
+          (table₁ c24.before.before.before.before.before.before.before.before.before.before.before)
           c.rup_traced-t.new.fixed (traced
-          c.before.before.before.before.before.before.before.before.before.before.before.before.before.before.before.before.before.before.before.before.before.before.before.before.before.before.before.before.before.before.before.before.before.before.before) _
+          c24.before.before.before.before.before.before.before.before.before.before.before) _
           c.drop_to.ensures,
-      rup-fixed B ms (root c.before.before.before.before.before.before.before.before.before.before.before.before.before.before.before.before.before.before.before.before.before.before.before.before.before.before.before.before.before.before.before.before.before.before.before.before.before.before.before.before.before.before.before.before.before.before.before.before.before.before.before.before.before.before.before.before.before.before.before.before) c.requires.fact.0.ready.good c.rup_traced-t.result (table₁ c.before.before.before.before.before.before.before.before.before.before.before.before.before.before.before.before.before.before.before.before.before.before.before.before.before.before.before.before.before.before.before.before.before.before.before)
+      rup-fixed B ms (root c60) c.requires.fact.0.ready.good c.rup_traced-t.result
+          (table₁ c24.before.before.before.before.before.before.before.before.before.before.before)
           c.rup_traced-t.new.fixed (traced
-          c.before.before.before.before.before.before.before.before.before.before.before.before.before.before.before.before.before.before.before.before.before.before.before.before.before.before.before.before.before.before.before.before.before.before.before) c.requires.fact.5,
+          c24.before.before.before.before.before.before.before.before.before.before.before) c.requires.fact.5,
     )

@@ -43,8 +43,9 @@ module _ (a : lts.After-support_from tie.the-claims reads.Pre reads.Post tie.han
 
 pub supports_of-requires : goal.supports_of-requires
 supports_of-requires c =
+    let c12 = c.before.before.before.before.before.before.before.before.before.before.before.before in
     let R = c.requires.fact.0.ready in (
-      good-readable (before c.before.before.before.before.before.before.before.before.before.before.before.before.before.before) R.good,
+      good-readable (before c12.before.before) R.good,
       R.inside,
       R.room,
       c.requires.memberwords_len.0,
@@ -52,9 +53,10 @@ supports_of-requires c =
 
 pub support_from-word-requires : goal.support_from-word-requires
 support_from-word-requires c =
+    let c12 = c.before.before.before.before.before.before.before.before.before.before.before.before in
     record {
       readable = (
-        good-readable (before c.before.before.before.before.before.before.before.before.before.before.before.before.before.before.before.before.before.before.before.before) c.requires.fact.0.ready.good,
+        good-readable (before c12.before.before.before.before.before.before.before.before) c.requires.fact.0.ready.good,
         c.requires.fact.0.inside,
         omega (arith, c.requires.fact.0.ready.room, c.supports_of.auto.memo),
       );
@@ -97,8 +99,10 @@ shape_of-links c =
 
 pub shape_of-memo : goal.shape_of-memo
 shape_of-memo c =
+    let c12 = c.before.before.before.before.before.before.before.before.before.before.before.before in
+    let c24 = c12.before.before.before.before.before.before.before.before.before.before.before.before in
     c.trace_by.auto.memo ∙ memo-kept
-    c.before.before.before.before.before.before.before.before.before.before.before.before.before.before.before.before.before.before.before.before.before.before.before.before.before.before.before.before.before.before.before
+    c24.before.before.before.before.before.before.before
 
 pub shape_of-memberwords : goal.shape_of-memberwords
 shape_of-memberwords c =

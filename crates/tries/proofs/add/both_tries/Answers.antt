@@ -58,15 +58,17 @@ returns-then-is_decided c =
     }
 
 pub second_try-second-requires : goal.second_try-second-requires
-second_try-second-requires c = (
-  again _ (left c.before.before.before.before.before.before.before.before.before.before.before.before.before.before.before.before.before.before.before.before.before.before.before.before.before.before.before) _ _ _ _ c.try_line-first.ensures.fact.0 c.try_line-first.auto.memo c.requires.0,
-  c.try_line-first.ensures.marks_after ∙ ap unmarked (sym c.try_line-first.auto.vars),
-  c.requires.2,
-  c.requires.3,
-  omega (arith, c.requires.4, c.try_line-first.auto.scratch),
-  c.requires.5,
-  c.requires.6,
-)
+second_try-second-requires c =
+    let c12 = c.before.before.before.before.before.before.before.before.before.before.before.before in
+    let c24 = c12.before.before.before.before.before.before.before.before.before.before.before.before in (
+      again _ (left c24.before.before.before) _ _ _ _ c.try_line-first.ensures.fact.0 c.try_line-first.auto.memo c.requires.0,
+      c.try_line-first.ensures.marks_after ∙ ap unmarked (sym c.try_line-first.auto.vars),
+      c.requires.2,
+      c.requires.3,
+      omega (arith, c.requires.4, c.try_line-first.auto.scratch),
+      c.requires.5,
+      c.requires.6,
+    )
 
 pub shape_of-vars : goal.shape_of-vars
 shape_of-vars c = c.second_try-second.auto.vars ∙ c.try_line-first.auto.vars
@@ -97,12 +99,15 @@ shape_of-scratch c = c.second_try-second.auto.scratch
 
 pub returns : goal.returns
 returns c =
-    let e = c.before.before.before.before.before.before.before.before.before.before.before.before.before.before.before.before.before.before.before.before.before.before.before.before.before.before.before in record {
+    let c12 = c.before.before.before.before.before.before.before.before.before.before.before.before in
+    let c24 = c12.before.before.before.before.before.before.before.before.before.before.before.before in
+    let c36 = c24.before.before.before.before.before.before.before.before.before.before.before.before in
+    let e = c24.before.before.before in record {
       fact = (
         c.second_try-second.ensures.fact.0 ∙ c.try_line-first.ensures.fact.0,
         both-twice _ _ _ _ c.try_line-first.result c.second_try-second.result c.if-made.false c.try_line-first.ensures.fact.1
             (sym e.is_decided.ensures ∙ c.if-is_decided.false)
-            (left c.before.before.before.before.before.before.before.before.before.before.before.before.before.before.before.before.before.before.before.before.before.before.before.before.before.before.before.before.before.before.before.before.before.before.before.before.before.before.before.before.before.before.before.before.before) c.try_line-first.ensures.fact.0
+            (left c36.before.before.before.before.before.before.before.before.before) c.try_line-first.ensures.fact.0
             c.second_try-second.ensures.fact.1 _ c.greater-peak.ensures,
       );
       marks_after = c.second_try-second.ensures.marks_after ∙ ap unmarked c.try_line-first.auto.vars;

@@ -84,53 +84,84 @@ module _ (b : lts.After-both_tries tie.the-claims reads.Pre reads.Post tie.hande
   )
 
 pub returns-then-st-ge1024 : goal.returns-then-st-ge1024
-returns-then-st-ge1024 c = record {
-  stepped = (λ profile n ls H w is. clause-22 profile n
-      (lent c.before.before.before.before.before.before.before.before.before.before.before.before.before.before) c.args.st H ls w
-      c.if-st-ge1024.true);
-  marks_after = c.requires.1;
-}
+returns-then-st-ge1024 c =
+    let c12 = c.before.before.before.before.before.before.before.before.before.before.before.before in
+    record {
+      stepped = (λ profile n ls H w is. clause-22 profile n
+          (lent c12.before.before) c.args.st H ls w
+          c.if-st-ge1024.true);
+      marks_after = c.requires.1;
+    }
 
 pub returns-then-shared : goal.returns-then-shared
 returns-then-shared c =
+    let c12 = c.before.before.before.before.before.before.before.before.before.before.before.before in
     record {
       stepped = (λ profile n ls H w is. code-17 profile n
-          (lent c.before.before.before.before.before.before.before.before.before.before.before.before.before.before.before.before) c.args.st
+          (lent c12.before.before.before.before) c.args.st
           H ls w c.args.clause is c.if-st-ge1024.false
           (sym c.shared.ensures ∙ c.if-shared.true));
       marks_after = c.requires.1;
     }
 
 pub make-made-requires : goal.make-made-requires
-make-made-requires c = (held
-    c.before.before.before.before.before.before.before.before.before.before.before.before.before.before.before.before.before.before.before.before.before).entries.good
+make-made-requires c =
+    let c12 = c.before.before.before.before.before.before.before.before.before.before.before.before in
+    (held
+    c12.before.before.before.before.before.before.before.before.before).entries.good
 
 pub both_tries-j-requires : goal.both_tries-j-requires
-both_tries-j-requires c = (
-  tries-ready (lent c.before.before.before.before.before.before.before.before.before.before.before.before.before.before.before.before.before.before.before.before.before.before.before.before.before.before.before.before.before.before.before.before.before.before.before.before.before.before.before.before.before.before.before) c.args.st (held c.before.before.before.before.before.before.before.before.before.before.before.before.before.before.before.before.before.before.before.before.before.before.before.before.before.before.before.before.before.before.before.before.before.before.before.before.before.before.before.before.before.before.before) c.args.clause.literals (apart c.before.before.before.before.before.before.before.before.before.before.before.before.before.before.before.before.before.before.before.before.before.before) (table₁ c.before.before.before.before.before.before.before.before.before.before.before.before.before.before.before.before.before.before.before.before.before.before) c.make-made.result c.make-made.ensures
-      c.args.memo.now c.requires.2,
-  c.requires.1 ∙ ap unmarked (sym c.make-made.auto.vars),
-  omega (arith, (held c.before.before.before.before.before.before.before.before.before.before.before.before.before.before.before.before.before.before.before.before.before.before.before.before.before.before.before.before.before.before.before.before.before.before.before.before.before.before.before.before.before.before.before).many, (held c.before.before.before.before.before.before.before.before.before.before.before.before.before.before.before.before.before.before.before.before.before.before.before.before.before.before.before.before.before.before.before.before.before.before.before.before.before.before.before.before.before.before.before).lines),
-  (held c.before.before.before.before.before.before.before.before.before.before.before.before.before.before.before.before.before.before.before.before.before.before.before.before.before.before.before.before.before.before.before.before.before.before.before.before.before.before.before.before.before.before.before).room,
-  (held c.before.before.before.before.before.before.before.before.before.before.before.before.before.before.before.before.before.before.before.before.before.before.before.before.before.before.before.before.before.before.before.before.before.before.before.before.before.before.before.before.before.before.before).entries.room,
-  (held c.before.before.before.before.before.before.before.before.before.before.before.before.before.before.before.before.before.before.before.before.before.before.before.before.before.before.before.before.before.before.before.before.before.before.before.before.before.before.before.before.before.before.before).marked,
-  c.requires.3,
-)
+both_tries-j-requires c =
+    let c12 = c.before.before.before.before.before.before.before.before.before.before.before.before in
+    let c24 = c12.before.before.before.before.before.before.before.before.before.before.before.before in
+    let c36 = c24.before.before.before.before.before.before.before.before.before.before.before.before in (
+      tries-ready (lent c36.before.before.before.before.before.before.before) c.args.st
+          (held c36.before.before.before.before.before.before.before) c.args.clause.literals
+          (apart c12.before.before.before.before.before.before.before.before.before.before)
+          (table₁ c12.before.before.before.before.before.before.before.before.before.before) c.make-made.result c.make-made.ensures
+          c.args.memo.now c.requires.2,
+      c.requires.1 ∙ ap unmarked (sym c.make-made.auto.vars),
+      omega (
+        arith,
+        (held c36.before.before.before.before.before.before.before).many,
+        (held c36.before.before.before.before.before.before.before).lines,
+      ),
+      (held c36.before.before.before.before.before.before.before).room,
+      (held c36.before.before.before.before.before.before.before).entries.room,
+      (held c36.before.before.before.before.before.before.before).marked,
+      c.requires.3,
+    )
 
 pub drop_to-requires : goal.drop_to-requires
 drop_to-requires c =
+    let c12 = c.before.before.before.before.before.before.before.before.before.before.before.before in
+    let c24 = c12.before.before.before.before.before.before.before.before.before.before.before.before in
+    let c36 = c24.before.before.before.before.before.before.before.before.before.before.before.before in
+    let c48 = c36.before.before.before.before.before.before.before.before.before.before.before.before in
+    let c60 = c48.before.before.before.before.before.before.before.before.before.before.before.before in
     let k = keep-fits c.both_tries-j.result _ _ _ c.kept_count-keep.ensures
-    (held c.before.before.before.before.before.before.before.before.before.before.before.before.before.before.before.before.before.before.before.before.before.before.before.before.before.before.before.before.before.before.before.before.before.before.before.before.before.before.before.before.before.before.before.before.before.before.before.before.before.before.before.before.before.before.before.before.before.before.before.before.before.before.before.before.before.before).entries.good.least (larger c.before.before.before.before.before.before.before.before.before.before.before.before.before.before.before.before.before.before.before.before.before.before.before.before.before.before.before.before.before.before.before.before.before.before.before.before.before.before.before.before.before.before.before.before.before).more in
-    (subst Good (sym (back c.before.before.before.before.before.before.before.before.before.before.before.before.before.before.before.before.before.before.before.before.before.before.before)) (larger c.before.before.before.before.before.before.before.before.before.before.before.before.before.before.before.before.before.before.before.before.before.before.before.before.before.before.before.before.before.before.before.before.before.before.before.before.before.before.before.before.before.before.before.before.before).good, k.0, k.1)
+    (held c60.before.before.before.before.before.before).entries.good.least
+    (larger c36.before.before.before.before.before.before.before.before.before).more in (
+      subst Good (sym (back c12.before.before.before.before.before.before.before.before.before.before.before))
+          (larger c36.before.before.before.before.before.before.before.before.before).good,
+      k.0,
+      k.1,
+    )
 
 pub ended-requires : goal.ended-requires
 ended-requires c =
-    let H = held c.before.before.before.before.before.before.before.before.before.before.before.before.before.before.before.before.before.before.before.before.before.before.before.before.before.before.before.before.before.before.before.before.before.before.before.before.before.before.before.before.before.before.before.before.before.before.before.before.before.before.before.before.before.before.before.before.before.before.before.before.before.before.before.before.before.before.before.before.before.before.before.before.before.before.before.before.before.before in (
+    let c12 = c.before.before.before.before.before.before.before.before.before.before.before.before in
+    let c24 = c12.before.before.before.before.before.before.before.before.before.before.before.before in
+    let c36 = c24.before.before.before.before.before.before.before.before.before.before.before.before in
+    let c48 = c36.before.before.before.before.before.before.before.before.before.before.before.before in
+    let c60 = c48.before.before.before.before.before.before.before.before.before.before.before.before in
+    let c72 = c60.before.before.before.before.before.before.before.before.before.before.before.before in
+    let H = held c72.before.before.before.before.before.before in (
       omega (
         arith,
         H.many,
         few
-            c.before.before.before.before.before.before.before.before.before.before.before.before.before.before.before.before.before.before.before.before.before.before.before.before.before.before.before.before.before.before.before.before.before.before.before.before.before.before.before.before.before.before.before.before.before.before.before.before.before.before.before.before.before.before.before.before.before,
+            c48.before.before.before.before.before.before.before.before.before,
       ),
       H.room,
       H.lines,
@@ -139,7 +170,7 @@ ended-requires c =
         H.rounds,
         H.lines,
         few-rounds
-            c.before.before.before.before.before.before.before.before.before.before.before.before.before.before.before.before.before.before.before.before.before.before.before.before.before.before.before.before.before.before.before.before.before.before.before,
+            c24.before.before.before.before.before.before.before.before.before.before.before,
       ),
     )
 
@@ -177,16 +208,23 @@ shape_of-scratch c = c.both_tries-j.auto.scratch
 
 pub returns : goal.returns
 returns c =
+    let c12 = c.before.before.before.before.before.before.before.before.before.before.before.before in
+    let c24 = c12.before.before.before.before.before.before.before.before.before.before.before.before in
+    let c36 = c24.before.before.before.before.before.before.before.before.before.before.before.before in
+    let c48 = c36.before.before.before.before.before.before.before.before.before.before.before.before in
+    let c60 = c48.before.before.before.before.before.before.before.before.before.before.before.before in
+    let c72 = c60.before.before.before.before.before.before.before.before.before.before.before.before in
     record {
       stepped = (λ profile n ls H w is. code-stepped profile n
-          (lent c.before.before.before.before.before.before.before.before.before.before.before.before.before.before.before.before.before.before.before.before.before.before.before.before.before.before.before.before.before.before.before.before.before.before.before.before.before.before.before.before.before.before.before.before.before.before.before.before.before.before.before.before.before.before.before.before.before.before.before.before.before.before.before.before.before.before.before.before.before.before.before.before.before.before.before.before.before.before.before.before.before) c.args.st H ls w c.args.clause is (few c.before.before.before.before.before.before.before.before.before.before.before.before.before.before.before.before.before.before.before.before.before.before.before.before.before.before.before.before.before.before.before.before.before.before.before.before.before.before.before.before.before.before.before.before.before.before.before.before.before.before.before.before.before.before.before.before.before.before.before.before) (table₁ c.before.before.before.before.before.before.before.before.before.before.before.before.before.before.before.before.before.before.before.before.before.before.before.before.before.before.before.before.before.before.before.before.before.before.before.before.before.before.before.before.before.before.before.before.before.before.before.before.before.before.before.before.before.before.before.before.before.before.before.before) c.make-made.result
+          (lent c72.before.before.before.before.before.before.before.before.before) c.args.st H ls w c.args.clause is (few c60) (table₁ c60)
+          c.make-made.result
           c.both_tries-j.result (added
-          c.before.before.before.before.before.before.before.before.before.before.before.before.before.before.before.before.before.before.before.before.before.before.before.before.before.before.before.before.before.before.before.before.before.before.before.before.before.before)
+          c36.before.before)
           c.kept_count-keep.result c.kept_count-keep.ensures
-          (table₂ c.before.before.before.before.before.before.before.before.before.before.before.before.before.before.before.before.before.before.before.before.before.before.before.before.before.before.before.before.before.before.before.before.before.before.before.before.before.before)
+          (table₂ c36.before.before)
           (table_of c.drop_to.new.vars c.drop_to.new.lows c.drop_to.new.highs c.drop_to.new.heads c.drop_to.new.links
           c.kept_count-keep.result)
-          (back c.before.before.before.before.before.before.before.before.before.before.before.before.before.before.before.before.before.before.before.before.before.before.before.before.before.before.before.before.before.before.before.before.before.before.before.before.before.before) c.drop_to.ensures (scratch₂ c.before.before.before.before.before.before.before.before.before.before.before.before.before.before.before.before.before.before.before.before.before.before.before.before.before.before.before.before.before.before.before.before.before.before.before.before.before.before) (scratch-room c.before.before.before.before.before.before.before.before.before.before.before.before.before.before.before.before.before.before.before.before.before.before.before.before.before.before.before.before.before.before.before.before.before.before.before.before.before.before) _
+          (back c36.before.before) c.drop_to.ensures (scratch₂ c36.before.before) (scratch-room c36.before.before) _
           (with-nodes c.args.st c.make-made.result.count _ c.greater-peak.ensures) c.ended.ensures.value
           c.ended.ensures.members_after);
       marks_after = c.both_tries-j.ensures.marks_after ∙ ap unmarked c.make-made.auto.vars;

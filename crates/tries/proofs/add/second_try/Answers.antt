@@ -50,7 +50,9 @@ witness-w-requires c = subst PivotFits c.in-First.is c.requires.6
 
 pub try_line-requires : goal.try_line-requires
 try_line-requires c =
-    subst (Asked c.before.before.before.before.before.before.before.before.before.before.before.before.before.before.before.before.before.before.before.before.before.before.before) (sym c.with_witness.ensures) (c.requires.0, c.requires.1, c.requires.2, c.requires.3, c.requires.4, c.requires.5, tt)
+    let c12 = c.before.before.before.before.before.before.before.before.before.before.before.before in
+    subst (Asked c12.before.before.before.before.before.before.before.before.before.before.before) (sym c.with_witness.ensures)
+    (c.requires.0, c.requires.1, c.requires.2, c.requires.3, c.requires.4, c.requires.5, tt)
 
 pub returns-in-Nothing : goal.returns-in-Nothing
 returns-in-Nothing c = record { fact = (refl, second_none _ _ _ _ _ c.in-Nothing.is); marks_after = c.requires.1 }
@@ -81,8 +83,11 @@ shape_of-scratch c = c.try_line.auto.scratch
 
 pub returns-in-First : goal.returns-in-First
 returns-in-First c =
-    let s = c.before.before.before.before.before.before.before.before.before.before.before.before.before.before.before.before.before.before.before.before.before.before.before.before.before.before.before.before.before.before.before.before.before.before.before.before.before.before.before.before in
-    let a = c.before.before.before.before.before.before.before.before.before.before.before.before.before.before.before.before.before in
+    let c12 = c.before.before.before.before.before.before.before.before.before.before.before.before in
+    let c24 = c12.before.before.before.before.before.before.before.before.before.before.before.before in
+    let c36 = c24.before.before.before.before.before.before.before.before.before.before.before.before in
+    let s = c36.before.before.before.before in
+    let a = c12.before.before.before.before.before in
     let told = subst (Told s a) c.with_witness.ensures c.try_line.ensures.fact in record {
       fact = (
         told.0,

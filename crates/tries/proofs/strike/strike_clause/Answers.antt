@@ -34,10 +34,11 @@ lowest-i-requires c = (c.requires.2, c.requires.3)
 
 pub returns-then-st-i : goal.returns-then-st-i
 returns-then-st-i c =
-    let found = subst (stands c.before.before.before.before.before.before.before.before.before.before.before.before.before.before)
+    let c12 = c.before.before.before.before.before.before.before.before.before.before.before.before in
+    let found = subst (stands c12.before.before)
     c.in-At.is c.find.ensures in
     λ n cs ls H w is. strike-none n
-    (lent c.before.before.before.before.before.before.before.before.before.before.before.before.before.before cs) c.args.st H ls w
+    (lent c12.before.before cs) c.args.st H ls w
     c.args.clause is _ _ found c.lowest-i.ensures
     c.if-st-i.true
 
@@ -46,10 +47,11 @@ bounds-struck-i c = omega (arith, c.if-st-i.false, c.requires.3)
 
 pub returns-else-st-i : goal.returns-else-st-i
 returns-else-st-i c =
-    let found = subst (stands c.before.before.before.before.before.before.before.before.before.before.before.before.before.before)
+    let c12 = c.before.before.before.before.before.before.before.before.before.before.before.before in
+    let found = subst (stands c12.before.before)
     c.in-At.is c.find.ensures in
     λ n cs ls H w is. strike-lowest n
-    (lent c.before.before.before.before.before.before.before.before.before.before.before.before.before.before cs) c.args.st H ls w
+    (lent c12.before.before cs) c.args.st H ls w
     c.args.clause is _ _ found c.lowest-i.ensures
     c.if-st-i.false
 

@@ -87,14 +87,25 @@ shape_of-words-then-made c =
 
 pub returns-then-made : goal.returns-then-made
 returns-then-made c =
-    traced-full (before c.before.before.before.before.before.before.before.before.before.before.before.before.before.before.before.before.before.before.before.before.before.before.before.before.before.before.before.before.before.before.before.before.before.before.before.before.before.before) c.requires.fact.0.ready.good (members c.before.before.before.before.before.before.before.before.before.before.before.before.before.before.before.before.before.before.before.before.before.before.before.before.before.before.before.before.before.before.before.before.before.before.before.before.before.before) (root c.before.before.before.before.before.before.before.before.before.before.before.before.before.before.before.before.before.before.before.before.before.before.before.before.before.before.before.before.before.before.before.before.before.before.before.before.before.before) (table₁ c.before.before.before.before.before.before.before.before.before.before.before.before.before.before.before.before.before.before) (list₁ c.before.before.before.before.before.before.before.before.before.before.before.before.before.before.before.before.before.before) (by-negation c.before.before.before.before.before.before.before.before.before.before.before.before.before.before.before.before.before.before true c.if-made.true) _
+    let c12 = c.before.before.before.before.before.before.before.before.before.before.before.before in
+    let c24 = c12.before.before.before.before.before.before.before.before.before.before.before.before in
+    let c36 = c24.before.before.before.before.before.before.before.before.before.before.before.before in
+    traced-full (before c36.before.before) c.requires.fact.0.ready.good (members c36.before.before) (root c36.before.before)
+    (table₁ c12.before.before.before.before.before.before) (list₁ c12.before.before.before.before.before.before)
+    (by-negation c12.before.before.before.before.before.before true c.if-made.true) _
 
 pub trace-requires : goal.trace-requires
 trace-requires c =
-    let B = by-negation c.before.before.before.before.before.before.before.before.before.before.before.before.before.before.before.before.before.before.before.before.before.before.before.before.before.before.before false c.if-made.false in
+    let c12 = c.before.before.before.before.before.before.before.before.before.before.before.before in
+    let c24 = c12.before.before.before.before.before.before.before.before.before.before.before.before in
+    let c36 = c24.before.before.before.before.before.before.before.before.before.before.before.before in
+    let B = by-negation c24.before.before.before false c.if-made.false in
     let calm = subst (λ (ds : List Diagram). (unit_prop 64 ds).conflict ≡ false) (sym (B.are refl)) c.requires.fact.3 in record {
       fact = (
-        list-ready (before c.before.before.before.before.before.before.before.before.before.before.before.before.before.before.before.before.before.before.before.before.before.before.before.before.before.before.before.before.before.before.before.before.before.before.before.before.before.before.before.before.before.before.before.before.before.before.before) (members c.before.before.before.before.before.before.before.before.before.before.before.before.before.before.before.before.before.before.before.before.before.before.before.before.before.before.before.before.before.before.before.before.before.before.before.before.before.before.before.before.before.before.before.before.before.before.before) (root c.before.before.before.before.before.before.before.before.before.before.before.before.before.before.before.before.before.before.before.before.before.before.before.before.before.before.before.before.before.before.before.before.before.before.before.before.before.before.before.before.before.before.before.before.before.before.before) (table₁ c.before.before.before.before.before.before.before.before.before.before.before.before.before.before.before.before.before.before.before.before.before.before.before.before.before.before.before) (list₁ c.before.before.before.before.before.before.before.before.before.before.before.before.before.before.before.before.before.before.before.before.before.before.before.before.before.before.before) c.args.memo.now c.by_negation-made.new.memo B
+        list-ready (before c36.before.before.before.before.before.before.before.before.before.before.before)
+            (members c36.before.before.before.before.before.before.before.before.before.before.before)
+            (root c36.before.before.before.before.before.before.before.before.before.before.before) (table₁ c24.before.before.before)
+            (list₁ c24.before.before.before) c.args.memo.now c.by_negation-made.new.memo B
             c.requires.fact.0.ready.room c.by_negation-made.auto.memo,
         c.by_negation-made.auto.words ∙ c.requires.fact_2.1
             ∙ sym (c.by_negation-made.auto.list ∙ c.requires.fact.1),
@@ -143,7 +154,15 @@ shape_of-fixed c =
 
 pub returns : goal.returns
 returns c =
-    traced-by (before c.before.before.before.before.before.before.before.before.before.before.before.before.before.before.before.before.before.before.before.before.before.before.before.before.before.before.before.before.before.before.before.before.before.before.before.before.before.before.before.before.before.before.before.before.before.before.before.before.before.before.before.before.before.before.before.before.before.before.before.before.before.before.before.before.before.before) c.requires.fact.0.ready.good (members c.before.before.before.before.before.before.before.before.before.before.before.before.before.before.before.before.before.before.before.before.before.before.before.before.before.before.before.before.before.before.before.before.before.before.before.before.before.before.before.before.before.before.before.before.before.before.before.before.before.before.before.before.before.before.before.before.before.before.before.before.before.before.before.before.before.before) (root c.before.before.before.before.before.before.before.before.before.before.before.before.before.before.before.before.before.before.before.before.before.before.before.before.before.before.before.before.before.before.before.before.before.before.before.before.before.before.before.before.before.before.before.before.before.before.before.before.before.before.before.before.before.before.before.before.before.before.before.before.before.before.before.before.before.before) (table₁ c.before.before.before.before.before.before.before.before.before.before.before.before.before.before.before.before.before.before.before.before.before.before.before.before.before.before.before.before.before.before.before.before.before.before.before.before.before.before.before.before.before.before.before.before.before.before) (list₁ c.before.before.before.before.before.before.before.before.before.before.before.before.before.before.before.before.before.before.before.before.before.before.before.before.before.before.before.before.before.before.before.before.before.before.before.before.before.before.before.before.before.before.before.before.before.before)
-    (by-negation c.before.before.before.before.before.before.before.before.before.before.before.before.before.before.before.before.before.before.before.before.before.before.before.before.before.before.before.before.before.before.before.before.before.before.before.before.before.before.before.before.before.before.before.before.before.before false c.if-made.false)
+    let c12 = c.before.before.before.before.before.before.before.before.before.before.before.before in
+    let c24 = c12.before.before.before.before.before.before.before.before.before.before.before.before in
+    let c36 = c24.before.before.before.before.before.before.before.before.before.before.before.before in
+    let c48 = c36.before.before.before.before.before.before.before.before.before.before.before.before in
+    let c60 = c48.before.before.before.before.before.before.before.before.before.before.before.before in
+    traced-by (before c60.before.before.before.before.before.before) c.requires.fact.0.ready.good
+    (members c60.before.before.before.before.before.before) (root c60.before.before.before.before.before.before)
+    (table₁ c36.before.before.before.before.before.before.before.before.before.before)
+    (list₁ c36.before.before.before.before.before.before.before.before.before.before)
+    (by-negation c36.before.before.before.before.before.before.before.before.before.before false c.if-made.false)
     c.trace.result (table_of c.trace.new.vars c.trace.new.lows c.trace.new.highs c.trace.new.heads c.trace.new.links
     c.trace.result.count) _ c.trace.ensures
