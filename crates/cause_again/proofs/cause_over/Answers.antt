@@ -26,8 +26,11 @@ module _ (a : lts.After-state_again tie.the-claims reads.Pre reads.Post tie.hand
       a.state_again-again.new.links a.state_again-again.new.members
       a.state_again-again.new.scratch a.state_again-again.new.struck
 
-  same_size : length made.vars ≡ length
-      (lent a.before.before.before.before.before.before.before.before.before.before.before.before.before.before.before.before.before.before.before.before.before.before.before.before).vars
+  same_size :
+      let a12 = a.before.before.before.before.before.before.before.before.before.before.before.before in
+      let a24 = a12.before.before.before.before.before.before.before.before.before.before.before.before in
+      length made.vars ≡ length
+      (lent a24).vars
   same_size = a.state_again-again.auto.vars
 
 -- the cause told

@@ -35,14 +35,18 @@ module _ (a : lts.After-make tie.the-claims reads.Pre reads.Post tie.handed_clau
   table₁ = table_of a.make-made.new.vars a.make-made.new.lows a.make-made.new.highs a.make-made.new.heads
       a.make-made.new.links a.make-made.result.count
 
-  larger : Grown (table_in (lent
-      a.before.before.before.before.before.before.before.before.before.before.before.before.before.before.before.before.before.before)
+  larger :
+      let a12 = a.before.before.before.before.before.before.before.before.before.before.before.before in
+      Grown (table_in (lent
+      a12.before.before.before.before.before.before)
       a.args.st.count) (clause_of_words a.args.clause.literals)
       (outcome_at table₁ a.make-made.result)
-  larger = grown (table_in (lent
-      a.before.before.before.before.before.before.before.before.before.before.before.before.before.before.before.before.before.before)
+  larger =
+      let a12 = a.before.before.before.before.before.before.before.before.before.before.before.before in
+      grown (table_in (lent
+      a12.before.before.before.before.before.before)
       a.args.st.count) (held
-      a.before.before.before.before.before.before.before.before.before.before.before.before.before.before.before.before.before.before).entries.good a.args.clause.literals table₁
+      a12.before.before.before.before.before.before).entries.good a.args.clause.literals table₁
       a.make-made.result a.make-made.ensures
 
 -- its last try is traced
@@ -55,7 +59,9 @@ module _ (b : lts.After-tried_cause tie.the-claims reads.Pre reads.Post tie.hand
   abbrev words : List ℕ
   words = b.tried_cause-failed.new.fixed
 
-  back : table₂ ≡ table₁ b.before.before.before.before.before.before.before.before.before.before.before.before.before.before.before.before.before.before.before.before.before
+  back :
+      let b12 = b.before.before.before.before.before.before.before.before.before.before.before.before in
+      table₂ ≡ table₁ b12.before.before.before.before.before.before.before.before.before
   back = b.tried_cause-failed.ensures.fact_2.0
 
 pub make-made-requires : goal.make-made-requires

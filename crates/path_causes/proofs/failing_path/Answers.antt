@@ -44,7 +44,11 @@ module _ (a : lts.After-path_turn tie.the-claims reads.Pre reads.Post goal.the-i
   table₁ = table_of a.path_turn-t.new.vars a.path_turn-t.new.lows a.path_turn-t.new.highs a.path_turn-t.new.heads a.path_turn-t.new.links
       a.path_turn-t.result.count
 
-  said : LineSays (before a.before.before.before.before.before.before.before.before.before.before.before.before.before.before.before.before.before.before.before.before.before.before.before) (turn_by a.loop-root.literals (diagrams_of (nodes_of (before a.before.before.before.before.before.before.before.before.before.before.before.before.before.before.before.before.before.before.before.before.before.before.before)) a.args.members.now)) 64
+  said :
+      let a12 = a.before.before.before.before.before.before.before.before.before.before.before.before in
+      LineSays (before a12.before.before.before.before.before.before.before.before.before.before.before)
+      (turn_by a.loop-root.literals (diagrams_of
+      (nodes_of (before a12.before.before.before.before.before.before.before.before.before.before.before)) a.args.members.now)) 64
       a.path_turn-t.result table₁
   said =
       subst (λ (t : Table). LineSays t (turn_by a.loop-root.literals (diagrams_of (nodes_of t) a.args.members.now)) 64
@@ -54,15 +58,19 @@ module _ (a : lts.After-path_turn tie.the-claims reads.Pre reads.Post goal.the-i
   unmarked-again : a.path_turn-t.new.marks ≡ unmarked (length a.args.vars.now)
   unmarked-again = a.path_turn-t.ensures.marks_after ∙ ap (λ (t : Table). unmarked (length t.vars)) a.loop-root.invariant.0
 
-  not_last : a.loop-root.passed < path_count (diagram_at
-      (nodes_of (before a.before.before.before.before.before.before.before.before.before.before.before.before.before.before.before.before.before.before.before.before.before.before.before)) a.args.root.0)
-  not_last = omega (
-    arith,
-    a.loop-root.invariant.6.inside refl,
-    count-is
-        (diagram_at (nodes_of
-        (before a.before.before.before.before.before.before.before.before.before.before.before.before.before.before.before.before.before.before.before.before.before.before.before)) a.args.root.0),
-  )
+  not_last :
+      let a12 = a.before.before.before.before.before.before.before.before.before.before.before.before in
+      a.loop-root.passed < path_count (diagram_at
+      (nodes_of (before a12.before.before.before.before.before.before.before.before.before.before.before)) a.args.root.0)
+  not_last =
+      let a12 = a.before.before.before.before.before.before.before.before.before.before.before.before in
+      omega (
+        arith,
+        a.loop-root.invariant.6.inside refl,
+        count-is
+            (diagram_at (nodes_of
+            (before a12.before.before.before.before.before.before.before.before.before.before.before)) a.args.root.0),
+      )
 
 -- what dropping its nodes leaves
 module _ (d : lts.After-drop_to tie.the-claims reads.Pre reads.Post goal.the-invariant-loop-root goal.the-decreases-loop-root
@@ -71,11 +79,21 @@ module _ (d : lts.After-drop_to tie.the-claims reads.Pre reads.Post goal.the-inv
   dropped = table_of d.drop_to.new.vars d.drop_to.new.lows d.drop_to.new.highs d.drop_to.new.heads d.drop_to.new.links
       d.args.count
 
-  as_before : dropped ≡ before
-      d.before.before.before.before.before.before.before.before.before.before.before.before.before.before.before.before.before.before.before.before.before.before.before.before.before.before.before.before.before.before.before.before.before.before.before.before.before.before.before.before.before.before.before.before.before.before.before
-  as_before = d.drop_to.ensures ∙ undone (before
-      d.before.before.before.before.before.before.before.before.before.before.before.before.before.before.before.before.before.before.before.before.before.before.before.before.before.before.before.before.before.before.before.before.before.before.before.before.before.before.before.before.before.before.before.before.before.before.before) (good d.before.before.before.before.before.before.before.before.before.before.before.before.before.before.before.before.before.before.before.before.before.before.before.before.before.before.before.before.before.before.before.before.before.before.before.before.before.before.before.before.before.before.before.before.before.before.before) (table₁ d.before.before.before.before.before.before.before.before.before.before.before.before.before.before.before.before.before.before.before.before.before.before.before.before)
-      (extended-longer (before d.before.before.before.before.before.before.before.before.before.before.before.before.before.before.before.before.before.before.before.before.before.before.before.before.before.before.before.before.before.before.before.before.before.before.before.before.before.before.before.before.before.before.before.before.before.before.before) (table₁ d.before.before.before.before.before.before.before.before.before.before.before.before.before.before.before.before.before.before.before.before.before.before.before.before) (good d.before.before.before.before.before.before.before.before.before.before.before.before.before.before.before.before.before.before.before.before.before.before.before.before.before.before.before.before.before.before.before.before.before.before.before.before.before.before.before.before.before.before.before.before.before.before.before) (said d.before.before.before.before.before.before.before.before.before.before.before.before.before.before.before.before.before.before.before.before.before.before.before.before).extended)
+  as_before :
+      let d12 = d.before.before.before.before.before.before.before.before.before.before.before.before in
+      let d24 = d12.before.before.before.before.before.before.before.before.before.before.before.before in
+      let d36 = d24.before.before.before.before.before.before.before.before.before.before.before.before in
+      dropped ≡ before
+      d36.before.before.before.before.before.before.before.before.before.before.before
+  as_before =
+      let d12 = d.before.before.before.before.before.before.before.before.before.before.before.before in
+      let d24 = d12.before.before.before.before.before.before.before.before.before.before.before.before in
+      let d36 = d24.before.before.before.before.before.before.before.before.before.before.before.before in
+      d.drop_to.ensures ∙ undone (before
+      d36.before.before.before.before.before.before.before.before.before.before.before)
+      (good d36.before.before.before.before.before.before.before.before.before.before.before) (table₁ d24)
+      (extended-longer (before d36.before.before.before.before.before.before.before.before.before.before.before) (table₁ d24)
+      (good d36.before.before.before.before.before.before.before.before.before.before.before) (said d24).extended)
 
 pub first_path-literals-requires : goal.first_path-literals-requires
 first_path-literals-requires c = (

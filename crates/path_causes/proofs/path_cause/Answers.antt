@@ -51,7 +51,9 @@ module _ (c : lts.After-live_members tie.the-claims reads.Pre reads.Post tie.han
   few : c.live_members-m.result ≤ 2048
   few = omega (arith, c.live_members-m.ensures.0, c.requires.fact.2)
 
-  gathered-is : gathered ≡ live c.before.before.before.before.before.before.before.before.before.before.before.before.before
+  gathered-is :
+      let c12 = c.before.before.before.before.before.before.before.before.before.before.before.before in
+      gathered ≡ live c12.before
   gathered-is = c.live_members-m.ensures.1
 
   gathered-length : length gathered ≡ c.live_members-m.result

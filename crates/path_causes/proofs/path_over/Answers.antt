@@ -38,12 +38,19 @@ module _ (a : lts.After-failing_path tie.the-claims reads.Pre reads.Post tie.han
       a.failing_path-literals.new.heads a.failing_path-literals.new.links
       a.args.count
 
-  as_before : table₁ ≡ before
-      a.before.before.before.before.before.before.before.before.before.before.before.before.before.before.before.before.before.before.before.before.before.before.before.before.before.before.before.before.before
+  as_before :
+      let a12 = a.before.before.before.before.before.before.before.before.before.before.before.before in
+      let a24 = a12.before.before.before.before.before.before.before.before.before.before.before.before in
+      table₁ ≡ before
+      a24.before.before.before.before.before
   as_before = a.failing_path-literals.ensures.fact_3.0
 
-  failing : FirstFailing (before
-      a.before.before.before.before.before.before.before.before.before.before.before.before.before.before.before.before.before.before.before.before.before.before.before.before.before.before.before.before.before) (ms a.before.before.before.before.before.before.before.before.before.before.before.before.before.before.before.before.before.before.before.before.before.before.before.before.before.before.before.before.before) (root a.before.before.before.before.before.before.before.before.before.before.before.before.before.before.before.before.before.before.before.before.before.before.before.before.before.before.before.before.before) a.failing_path-literals.result
+  failing :
+      let a12 = a.before.before.before.before.before.before.before.before.before.before.before.before in
+      let a24 = a12.before.before.before.before.before.before.before.before.before.before.before.before in
+      FirstFailing (before
+      a24.before.before.before.before.before) (ms a24.before.before.before.before.before) (root a24.before.before.before.before.before)
+      a.failing_path-literals.result
   failing = a.failing_path-literals.ensures.fact_3.1
 
   memo-length : length a.failing_path-literals.new.memo ≡ length a.args.memo.now
@@ -55,16 +62,32 @@ module _ (a : lts.After-path_traced tie.the-claims reads.Pre reads.Post tie.hand
       a.path_traced-t.new.links
       a.path_traced-t.result.count
 
-  more : Extended (before a.before.before.before.before.before.before.before.before.before.before.before.before.before.before.before.before.before.before.before.before.before.before.before.before.before.before.before.before.before.before.before.before.before.before.before.before.before.before.before.before.before.before.before.before.before.before.before.before.before.before.before.before.before.before.before.before.before) table₂
-  more = subst (λ (t : Table). Extended t table₂)
-      (as_before a.before.before.before.before.before.before.before.before.before.before.before.before.before.before.before.before.before.before.before.before.before.before.before.before.before.before.before.before) a.path_traced-t.ensures.0
+  more :
+      let a12 = a.before.before.before.before.before.before.before.before.before.before.before.before in
+      let a24 = a12.before.before.before.before.before.before.before.before.before.before.before.before in
+      let a36 = a24.before.before.before.before.before.before.before.before.before.before.before.before in
+      let a48 = a36.before.before.before.before.before.before.before.before.before.before.before.before in
+      Extended (before a48.before.before.before.before.before.before.before.before.before) table₂
+  more =
+      let a12 = a.before.before.before.before.before.before.before.before.before.before.before.before in
+      let a24 = a12.before.before.before.before.before.before.before.before.before.before.before.before in
+      subst (λ (t : Table). Extended t table₂)
+      (as_before a24.before.before.before.before) a.path_traced-t.ensures.0
 
-  told : Fixed (by_words a.failing_path-literals.result
-      (ms a.before.before.before.before.before.before.before.before.before.before.before.before.before.before.before.before.before.before.before.before.before.before.before.before.before.before.before.before.before.before.before.before.before.before.before.before.before.before.before.before.before.before.before.before.before.before.before.before.before.before.before.before.before.before.before.before.before)) a.path_traced-t.result.rounds
+  told :
+      let a12 = a.before.before.before.before.before.before.before.before.before.before.before.before in
+      let a24 = a12.before.before.before.before.before.before.before.before.before.before.before.before in
+      let a36 = a24.before.before.before.before.before.before.before.before.before.before.before.before in
+      let a48 = a36.before.before.before.before.before.before.before.before.before.before.before.before in
+      Fixed (by_words a.failing_path-literals.result
+      (ms a48.before.before.before.before.before.before.before.before.before)) a.path_traced-t.result.rounds
       a.path_traced-t.new.fixed
-  told = subst (λ (t : Table). Fixed (by_words a.failing_path-literals.result (diagrams_of (nodes_of t) a.args.live.now))
+  told =
+      let a12 = a.before.before.before.before.before.before.before.before.before.before.before.before in
+      let a24 = a12.before.before.before.before.before.before.before.before.before.before.before.before in
+      subst (λ (t : Table). Fixed (by_words a.failing_path-literals.result (diagrams_of (nodes_of t) a.args.live.now))
       a.path_traced-t.result.rounds a.path_traced-t.new.fixed)
-      (as_before a.before.before.before.before.before.before.before.before.before.before.before.before.before.before.before.before.before.before.before.before.before.before.before.before.before.before.before.before) a.path_traced-t.ensures.1
+      (as_before a24.before.before.before.before) a.path_traced-t.ensures.1
 
 pub supports_of-requires : goal.supports_of-requires
 supports_of-requires c =

@@ -29,15 +29,25 @@ module _ (a : lts.After-by_literals tie.the-claims reads.Pre reads.Post tie.hand
   abbrev list₁ : List ℕ
   list₁ = a.by_literals-made.new.list
 
-  by-literals : AllMade (before
-      a.before.before.before.before.before.before.before.before.before.before.before.before.before.before.before.before.before.before.before.before) (unit_results a.args.literals (before a.before.before.before.before.before.before.before.before.before.before.before.before.before.before.before.before.before.before.before.before) a.args.members.now) false table₁ list₁
-  by-literals = made (before
-      a.before.before.before.before.before.before.before.before.before.before.before.before.before.before.before.before.before.before.before.before) a.requires.fact.0.good a.args.members.now a.args.literals a.requires.fact.3
+  by-literals :
+      let a12 = a.before.before.before.before.before.before.before.before.before.before.before.before in
+      AllMade (before
+      a12.before.before.before.before.before.before.before.before)
+      (unit_results a.args.literals (before a12.before.before.before.before.before.before.before.before) a.args.members.now) false
+      table₁ list₁
+  by-literals =
+      let a12 = a.before.before.before.before.before.before.before.before.before.before.before.before in
+      made (before
+      a12.before.before.before.before.before.before.before.before) a.requires.fact.0.good a.args.members.now a.args.literals
+      a.requires.fact.3
       a.by_literals-made.result.full table₁ list₁ a.by_literals-made.ensures.fact_3
 
   has_room : a.by_literals-made.result.full ≡ false
-  has_room = made-room (before
-      a.before.before.before.before.before.before.before.before.before.before.before.before.before.before.before.before.before.before.before.before) a.requires.fact.0.good a.args.members.now a.args.literals a.requires.fact.3
+  has_room =
+      let a12 = a.before.before.before.before.before.before.before.before.before.before.before.before in
+      made-room (before
+      a12.before.before.before.before.before.before.before.before) a.requires.fact.0.good a.args.members.now a.args.literals
+      a.requires.fact.3
       a.by_literals-made.result.full table₁ list₁ a.by_literals-made.ensures.fact_3
 
   memo-length : length a.by_literals-made.new.memo ≡ length a.args.memo.now

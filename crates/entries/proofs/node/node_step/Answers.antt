@@ -54,14 +54,16 @@ module _ (c : lts.After-put tie.the-claims reads.Pre reads.Post) (ms ss : List �
   outcome = outcome_of c.put-p.new.vars c.put-p.new.lows c.put-p.new.highs c.put-p.new.heads
       c.put-p.new.links c.put-p.result
 
-  made : outcome ≡ written (size (before c.before.before.before.before.before.before.before.before.before.before.before.before.before.before
+  made :
+      let c12 = c.before.before.before.before.before.before.before.before.before.before.before.before in
+      outcome ≡ written (size (before c12.before.before
       ms ss))
-      (put (size (before c.before.before.before.before.before.before.before.before.before.before.before.before.before.before ms ss))
-      (nodes_of (before c.before.before.before.before.before.before.before.before.before.before.before.before.before.before ms ss))
+      (put (size (before c12.before.before ms ss))
+      (nodes_of (before c12.before.before ms ss))
       c.args.b.variable
-      (entry_node (state c.before.before.before.before.before.before.before.before.before.before.before.before.before.before ms ss)
+      (entry_node (state c12.before.before ms ss)
       c.args.b.low.0) (entry_node
-      (state c.before.before.before.before.before.before.before.before.before.before.before.before.before.before ms ss)
+      (state c12.before.before ms ss)
       c.args.b.high.0))
   made =
       let c12 = c.before.before.before.before.before.before.before.before.before.before.before.before in

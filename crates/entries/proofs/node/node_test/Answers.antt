@@ -39,7 +39,9 @@ module _ (c : lts.Else3 tie.the-claims reads.Pre reads.Post) (ds ks ms ss : List
 
 -- both entries are there
 module _ (c : lts.Else5 tie.the-claims reads.Pre reads.Post) (ds ks ms ss : List ℕ) where
-  low : is_entry (state c.before.before.before.before.before.before.before.before.before.before.before.before.before ds ks ms ss)
+  low :
+      let c12 = c.before.before.before.before.before.before.before.before.before.before.before.before in
+      is_entry (state c12.before ds ks ms ss)
       c.args.b.low.0 ≡ true
   low =
       let c12 = c.before.before.before.before.before.before.before.before.before.before.before.before in
@@ -48,7 +50,9 @@ module _ (c : lts.Else5 tie.the-claims reads.Pre reads.Post) (ds ks ms ss : List
       c.is_entry.ensures
       (not-false _ c.if-not-is_entry.false-raw)
 
-  high : is_entry (state c.before.before.before.before.before.before.before.before.before.before.before.before.before ds ks ms ss)
+  high :
+      let c12 = c.before.before.before.before.before.before.before.before.before.before.before.before in
+      is_entry (state c12.before ds ks ms ss)
       c.args.b.high.0 ≡ true
   high =
       let c12 = c.before.before.before.before.before.before.before.before.before.before.before.before in

@@ -36,11 +36,15 @@ module _ (c : lts.After-set_made tie.the-claims reads.Pre reads.Post) where
   outcome = outcome_of c.set_made-p.new.vars c.set_made-p.new.lows c.set_made-p.new.highs c.set_made-p.new.heads c.set_made-p.new.links
       c.set_made-p.result
 
-  made : outcome ≡ place_in (before c.before.before.before.before.before.before.before.before.before.before.before.before.before.before)
+  made :
+      let c12 = c.before.before.before.before.before.before.before.before.before.before.before.before in
+      outcome ≡ place_in (before c12.before.before)
       (set_diagram 64 c.args.kind c.args.b)
   made = c.set_made-p.ensures
 
-  grown : Grown (before c.before.before.before.before.before.before.before.before.before.before.before.before.before.before)
+  grown :
+      let c12 = c.before.before.before.before.before.before.before.before.before.before.before.before in
+      Grown (before c12.before.before)
       (set_diagram 64 c.args.kind c.args.b) outcome
   grown =
       let c12 = c.before.before.before.before.before.before.before.before.before.before.before.before in

@@ -39,7 +39,9 @@ module _ (c : lts.Past-After-known_told2 tie.the-claims reads.Pre reads.Post tie
   abbrev root : ℕ
   root = c.in-Fits.g.0
 
-  tested : LineTested 64 (state c.before.before.before.before.before.before.before.before.before.before.before.before.before.before.before)
+  tested :
+      let c12 = c.before.before.before.before.before.before.before.before.before.before.before.before in
+      LineTested 64 (state c12.before.before.before)
       c.args.rule c.args.root.0 (Fits c.in-Fits.g)
   tested =
       let c12 = c.before.before.before.before.before.before.before.before.before.before.before.before in
@@ -49,12 +51,16 @@ module _ (c : lts.Past-After-known_told2 tie.the-claims reads.Pre reads.Post tie
       (c.line_test.ensures c.args.heads.now c.args.links.now c.args.members.now
       c.args.struck.now)
 
-  none : line_refusal 64 (state c.before.before.before.before.before.before.before.before.before.before.before.before.before.before.before)
+  none :
+      let c12 = c.before.before.before.before.before.before.before.before.before.before.before.before in
+      line_refusal 64 (state c12.before.before.before)
       c.args.rule c.args.root.0 ≡ 0
   none = tested.0
 
-  root_is : root ≡ entry_node
-      (state c.before.before.before.before.before.before.before.before.before.before.before.before.before.before.before) c.args.root.0
+  root_is :
+      let c12 = c.before.before.before.before.before.before.before.before.before.before.before.before in
+      root ≡ entry_node
+      (state c12.before.before.before) c.args.root.0
   root_is = tested.1
 
 -- what the try leaves
@@ -66,10 +72,17 @@ module _ (c : lts.After-try_line tie.the-claims reads.Pre reads.Post tie.handed_
   abbrev scratch₁ : List ℕ
   scratch₁ = c.try_line-j.new.scratch
 
-  back : table₁ ≡ before c.before.before.before.before.before.before.before.before.before.before.before.before.before.before.before.before.before.before.before.before.before.before.before.before
+  back :
+      let c12 = c.before.before.before.before.before.before.before.before.before.before.before.before in
+      let c24 = c12.before.before.before.before.before.before.before.before.before.before.before.before in
+      table₁ ≡ before c24
   back = c.try_line-j.ensures.fact.0
 
-  said : Tried (before c.before.before.before.before.before.before.before.before.before.before.before.before.before.before.before.before.before.before.before.before.before.before.before.before) (line_of 64 (state c.before.before.before.before.before.before.before.before.before.before.before.before.before.before.before.before.before.before.before.before.before.before.before.before) c.args.rule (root c.before.before.before.before.before.before.before.before.before)) c.try_line-j.result
+  said :
+      let c12 = c.before.before.before.before.before.before.before.before.before.before.before.before in
+      let c24 = c12.before.before.before.before.before.before.before.before.before.before.before.before in
+      Tried (before c24) (line_of 64 (state c24) c.args.rule (root c.before.before.before.before.before.before.before.before.before))
+      c.try_line-j.result
   said = c.try_line-j.ensures.fact.1
 
   scratch-room : 4096 ≤ length scratch₁

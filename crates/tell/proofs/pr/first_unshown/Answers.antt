@@ -54,15 +54,24 @@ module _ (a : lts.After-passes tie.the-claims reads.Pre reads.Post goal.the-inva
     more : a.loop-i.i < a.args.many
     more = a.loop-i-test.true
 
-    as_before : table_of a.passes.new.vars a.passes.new.lows a.passes.new.highs a.passes.new.heads a.passes.new.links
-        a.args.count ≡ before a.before.before.before.before.before.before.before.before.before.before.before.before.before.before.before.before.before.before.before.before.before.before.before.before.before
+    as_before :
+        let a12 = a.before.before.before.before.before.before.before.before.before.before.before.before in
+        let a24 = a12.before.before.before.before.before.before.before.before.before.before.before.before in
+        table_of a.passes.new.vars a.passes.new.lows a.passes.new.highs a.passes.new.heads a.passes.new.links
+        a.args.count ≡ before a24.before
     as_before = a.passes.ensures.fact_3.0 ∙ a.loop-i.invariant.0
 
     -- what it says, over the table as it was
-    told : a.passes.result ≡ (not
-        (live_at a.before.before.before.before.before.before.before.before.before.before.before.before.before.before.before.before.before.before.before.before.before.before.before.before.before a.loop-i.i) || (one_on a.before.before.before.before.before.before.before.before.before.before.before.before.before.before.before.before.before.before.before.before.before.before.before.before.before (before a.before.before.before.before.before.before.before.before.before.before.before.before.before.before.before.before.before.before.before.before.before.before.before.before.before) a.loop-i.i).shown)
-    told = a.passes.ensures.fact_3.1 ∙ ap (λ (t : Table). not
-        (live_at a.before.before.before.before.before.before.before.before.before.before.before.before.before.before.before.before.before.before.before.before.before.before.before.before.before a.loop-i.i) || (one_on a.before.before.before.before.before.before.before.before.before.before.before.before.before.before.before.before.before.before.before.before.before.before.before.before.before t a.loop-i.i).shown)
+    told :
+        let a12 = a.before.before.before.before.before.before.before.before.before.before.before.before in
+        let a24 = a12.before.before.before.before.before.before.before.before.before.before.before.before in
+        a.passes.result ≡ (not
+        (live_at a24.before a.loop-i.i) || (one_on a24.before (before a24.before) a.loop-i.i).shown)
+    told =
+        let a12 = a.before.before.before.before.before.before.before.before.before.before.before.before in
+        let a24 = a12.before.before.before.before.before.before.before.before.before.before.before.before in
+        a.passes.ensures.fact_3.1 ∙ ap (λ (t : Table). not
+        (live_at a24.before a.loop-i.i) || (one_on a24.before t a.loop-i.i).shown)
         a.loop-i.invariant.0
 
     unmarked-again : a.passes.new.marks ≡ unmarked (length a.args.vars.now)

@@ -31,7 +31,10 @@ module _ (a : lts.After-turn tie.the-claims reads.Pre reads.Post tie.handed_clau
   table₁ = table_of a.turn-t.new.vars a.turn-t.new.lows a.turn-t.new.highs a.turn-t.new.heads a.turn-t.new.links
       a.turn-t.result.count
 
-  said : LineSays (before a.before.before.before.before.before.before.before.before.before.before.before.before.before.before.before.before.before.before.before.before.before.before.before.before.before.before) (one a.before.before.before.before.before.before.before.before.before.before.before.before.before.before.before.before.before.before.before.before.before.before.before.before.before.before) 64 a.turn-t.result table₁
+  said :
+      let a12 = a.before.before.before.before.before.before.before.before.before.before.before.before in
+      let a24 = a12.before.before.before.before.before.before.before.before.before.before.before.before in
+      LineSays (before a24.before.before) (one a24.before.before) 64 a.turn-t.result table₁
   said = a.turn-t.ensures.fact_3
 
 pub returns-then-struck-i-ne0 : goal.returns-then-struck-i-ne0

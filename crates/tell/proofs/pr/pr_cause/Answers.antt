@@ -55,7 +55,9 @@ module _ (c : lts.After-live_members tie.the-claims reads.Pre reads.Post tie.han
   few : m ≤ 2048
   few = omega (arith, c.live_members-m.ensures.0, c.requires.fact.2)
 
-  gathered-is : gathered ≡ live c.before.before.before.before.before.before.before.before.before.before.before.before.before
+  gathered-is :
+      let c12 = c.before.before.before.before.before.before.before.before.before.before.before.before in
+      gathered ≡ live c12.before
   gathered-is = c.live_members-m.ensures.1
 
   gathered-length : length gathered ≡ m
@@ -70,7 +72,9 @@ module _ (c : lts.After-live_members tie.the-claims reads.Pre reads.Post tie.han
   scratch-length : length (take m c.args.scratch.now) ≡ m
   scratch-length = length-take-le m c.args.scratch.now (omega (arith, few, c.requires.fact.4))
 
-  gathered-ready : Negatable (before c.before.before.before.before.before.before.before.before.before.before.before.before.before) gathered
+  gathered-ready :
+      let c12 = c.before.before.before.before.before.before.before.before.before.before.before.before in
+      Negatable (before c12.before) gathered
       c.args.memo.now c.args.g.0
   gathered-ready =
       let c12 = c.before.before.before.before.before.before.before.before.before.before.before.before in

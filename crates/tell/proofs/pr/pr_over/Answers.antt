@@ -54,14 +54,22 @@ module _ (a : lts.After-by_negation tie.the-claims reads.Pre reads.Post tie.hand
 
   roomy : a.by_negation-made.result.full ≡ false
   roomy =
-      not_full (before a.before.before.before.before.before.before.before.before.before.before.before.before.before.before.before.before.before.before.before.before.before.before.before.before.before) a.requires.fact.0.ready.good a.args.live.now a.requires.fact.0.ready.inside (root a.before.before.before.before.before.before.before.before.before.before.before.before.before.before.before.before.before.before.before.before.before.before.before.before.before) table₁
-      list₁ (p a.before.before.before.before.before.before.before.before.before.before.before.before.before.before.before.before.before.before.before.before.before.before.before.before.before) (n a.before.before.before.before.before.before.before.before.before.before.before.before.before.before.before.before.before.before.before.before.before.before.before.before.before) a.requires.fact_2.4
+      let a12 = a.before.before.before.before.before.before.before.before.before.before.before.before in
+      let a24 = a12.before.before.before.before.before.before.before.before.before.before.before.before in
+      not_full (before a24.before) a.requires.fact.0.ready.good a.args.live.now a.requires.fact.0.ready.inside (root a24.before) table₁
+      list₁ (p a24.before) (n a24.before) a.requires.fact_2.4
       a.by_negation-made.result.full a.by_negation-made.ensures.fact_3
 
-  by-not : ByNegation (before
-      a.before.before.before.before.before.before.before.before.before.before.before.before.before.before.before.before.before.before.before.before.before.before.before.before.before) (ms a.before.before.before.before.before.before.before.before.before.before.before.before.before.before.before.before.before.before.before.before.before.before.before.before.before) (root a.before.before.before.before.before.before.before.before.before.before.before.before.before.before.before.before.before.before.before.before.before.before.before.before.before) false table₁ list₁
-  by-not = subst (λ (full : Bool). ByNegation (before
-      a.before.before.before.before.before.before.before.before.before.before.before.before.before.before.before.before.before.before.before.before.before.before.before.before.before) (ms a.before.before.before.before.before.before.before.before.before.before.before.before.before.before.before.before.before.before.before.before.before.before.before.before.before) (root a.before.before.before.before.before.before.before.before.before.before.before.before.before.before.before.before.before.before.before.before.before.before.before.before.before) full table₁ list₁) roomy a.by_negation-made.ensures.fact_3
+  by-not :
+      let a12 = a.before.before.before.before.before.before.before.before.before.before.before.before in
+      let a24 = a12.before.before.before.before.before.before.before.before.before.before.before.before in
+      ByNegation (before
+      a24.before) (ms a24.before) (root a24.before) false table₁ list₁
+  by-not =
+      let a12 = a.before.before.before.before.before.before.before.before.before.before.before.before in
+      let a24 = a12.before.before.before.before.before.before.before.before.before.before.before.before in
+      subst (λ (full : Bool). ByNegation (before
+      a24.before) (ms a24.before) (root a24.before) full table₁ list₁) roomy a.by_negation-made.ensures.fact_3
 
   first-length : length list₁ ≡ length a.args.live.now
   first-length = a.by_negation-made.auto.list ∙ a.requires.fact.2
@@ -70,8 +78,11 @@ module _ (a : lts.After-by_negation tie.the-claims reads.Pre reads.Post tie.hand
   words-length = a.by_negation-made.auto.words ∙ a.requires.fact_2.2 ∙ sym first-length
 
   ready₁ : ListReady table₁ list₁ a.by_negation-made.new.memo
-  ready₁ = list-ready (before
-      a.before.before.before.before.before.before.before.before.before.before.before.before.before.before.before.before.before.before.before.before.before.before.before.before.before) (ms a.before.before.before.before.before.before.before.before.before.before.before.before.before.before.before.before.before.before.before.before.before.before.before.before.before) (root a.before.before.before.before.before.before.before.before.before.before.before.before.before.before.before.before.before.before.before.before.before.before.before.before.before) table₁ list₁ a.args.memo.now a.by_negation-made.new.memo
+  ready₁ =
+      let a12 = a.before.before.before.before.before.before.before.before.before.before.before.before in
+      let a24 = a12.before.before.before.before.before.before.before.before.before.before.before.before in
+      list-ready (before
+      a24.before) (ms a24.before) (root a24.before) table₁ list₁ a.args.memo.now a.by_negation-made.new.memo
       by-not a.requires.fact.0.ready.room a.by_negation-made.auto.memo
 
 -- the search
@@ -80,10 +91,19 @@ module _ (b : lts.After-first_unshown tie.the-claims reads.Pre reads.Post tie.ha
   table₂ = table_of b.first_unshown-i.new.vars b.first_unshown-i.new.lows b.first_unshown-i.new.highs b.first_unshown-i.new.heads
       b.first_unshown-i.new.links b.by_negation-made.result.count
 
-  same₂ : table₂ ≡ table₁ b.before.before.before.before.before.before.before.before.before.before.before.before.before.before.before.before.before.before.before.before.before.before.before.before.before.before
+  same₂ :
+      let b12 = b.before.before.before.before.before.before.before.before.before.before.before.before in
+      let b24 = b12.before.before.before.before.before.before.before.before.before.before.before.before in
+      table₂ ≡ table₁ b24.before.before
   same₂ = b.first_unshown-i.ensures.fact_3.0
 
-  found : Lowest (table₁ b.before.before.before.before.before.before.before.before.before.before.before.before.before.before.before.before.before.before.before.before.before.before.before.before.before.before) (p b.before.before.before.before.before.before.before.before.before.before.before.before.before.before.before.before.before.before.before.before.before.before.before.before.before.before.before.before.before.before.before.before.before.before.before.before.before.before.before.before.before.before.before.before.before.before.before.before.before.before.before) (n b.before.before.before.before.before.before.before.before.before.before.before.before.before.before.before.before.before.before.before.before.before.before.before.before.before.before.before.before.before.before.before.before.before.before.before.before.before.before.before.before.before.before.before.before.before.before.before.before.before.before.before) (diagrams_of (nodes_of (table₁ b.before.before.before.before.before.before.before.before.before.before.before.before.before.before.before.before.before.before.before.before.before.before.before.before.before.before)) (list₁ b.before.before.before.before.before.before.before.before.before.before.before.before.before.before.before.before.before.before.before.before.before.before.before.before.before.before)) b.args.members.now
+  found :
+      let b12 = b.before.before.before.before.before.before.before.before.before.before.before.before in
+      let b24 = b12.before.before.before.before.before.before.before.before.before.before.before.before in
+      let b36 = b24.before.before.before.before.before.before.before.before.before.before.before.before in
+      let b48 = b36.before.before.before.before.before.before.before.before.before.before.before.before in
+      Lowest (table₁ b24.before.before) (p b48.before.before.before) (n b48.before.before.before)
+      (diagrams_of (nodes_of (table₁ b24.before.before)) (list₁ b24.before.before)) b.args.members.now
       b.args.struck.now b.args.many b.first_unshown-i.result
   found = b.first_unshown-i.ensures.fact_3.1
 
@@ -92,6 +112,8 @@ module _ (b : lts.After-first_unshown tie.the-claims reads.Pre reads.Post tie.ha
 
   f-inside : f < b.by_negation-made.result.count
   f-inside =
+      let b12 = b.before.before.before.before.before.before.before.before.before.before.before.before in
+      let b24 = b12.before.before.before.before.before.before.before.before.before.before.before.before in
       let below : f < b.args.count =
       subst (λ (k : ℕ). k < b.args.count)
       (get_or-take b.args.many b.args.members.now b.first_unshown-i.result 0 found.inside)
@@ -101,7 +123,7 @@ module _ (b : lts.After-first_unshown tie.the-claims reads.Pre reads.Post tie.ha
         arith,
         below,
         (by-not
-            b.before.before.before.before.before.before.before.before.before.before.before.before.before.before.before.before.before.before.before.before.before.before.before.before.before.before).extended.more,
+            b24.before.before).extended.more,
       )
 
 -- the turn
@@ -111,23 +133,47 @@ module _ (d : lts.After-turn_traced tie.the-claims reads.Pre reads.Post tie.hand
       d.turn_traced-rounds.new.heads d.turn_traced-rounds.new.links
       d.by_negation-made.result.count
 
-  same₃ : table₃ ≡ table₁ d.before.before.before.before.before.before.before.before.before.before.before.before.before.before.before.before.before.before.before.before.before.before.before.before.before.before.before.before.before.before.before.before.before.before.before.before.before.before.before.before.before.before.before.before.before.before.before.before.before.before.before.before.before.before.before
-  same₃ = d.turn_traced-rounds.ensures.0 ∙ same₂
-      d.before.before.before.before.before.before.before.before.before.before.before.before.before.before.before.before.before.before.before.before.before.before.before.before.before.before.before.before.before
+  same₃ :
+      let d12 = d.before.before.before.before.before.before.before.before.before.before.before.before in
+      let d24 = d12.before.before.before.before.before.before.before.before.before.before.before.before in
+      let d36 = d24.before.before.before.before.before.before.before.before.before.before.before.before in
+      let d48 = d36.before.before.before.before.before.before.before.before.before.before.before.before in
+      table₃ ≡ table₁ d48.before.before.before.before.before.before.before
+  same₃ =
+      let d12 = d.before.before.before.before.before.before.before.before.before.before.before.before in
+      let d24 = d12.before.before.before.before.before.before.before.before.before.before.before.before in
+      d.turn_traced-rounds.ensures.0 ∙ same₂
+      d24.before.before.before.before.before
 
-  fixed₁ : let t = table₁ d.before.before.before.before.before.before.before.before.before.before.before.before.before.before.before.before.before.before.before.before.before.before.before.before.before.before.before.before.before.before.before.before.before.before.before.before.before.before.before.before.before.before.before.before.before.before.before.before.before.before.before.before.before.before.before in
-      let s = d.before.before.before.before.before.before.before.before.before.before.before.before.before.before.before.before.before.before.before.before.before.before.before.before.before.before.before.before.before.before.before.before.before.before.before.before.before.before.before.before.before.before.before.before.before.before.before.before.before.before.before.before.before.before.before.before.before.before.before.before.before.before.before.before.before.before.before.before.before.before.before.before.before.before.before.before.before.before.before.before in
+  fixed₁ :
+      let d12 = d.before.before.before.before.before.before.before.before.before.before.before.before in
+      let d24 = d12.before.before.before.before.before.before.before.before.before.before.before.before in
+      let d36 = d24.before.before.before.before.before.before.before.before.before.before.before.before in
+      let d48 = d36.before.before.before.before.before.before.before.before.before.before.before.before in
+      let d60 = d48.before.before.before.before.before.before.before.before.before.before.before.before in
+      let d72 = d60.before.before.before.before.before.before.before.before.before.before.before.before in
+      let t = table₁ d48.before.before.before.before.before.before.before in
+      let s = d72.before.before.before.before.before.before.before.before in
       Fixed (by_not (under_witness
-      (p d.before.before.before.before.before.before.before.before.before.before.before.before.before.before.before.before.before.before.before.before.before.before.before.before.before.before.before.before.before.before.before.before.before.before.before.before.before.before.before.before.before.before.before.before.before.before.before.before.before.before.before.before.before.before.before.before.before.before.before.before.before.before.before.before.before.before.before.before.before.before.before.before.before.before.before.before.before.before.before.before) (n d.before.before.before.before.before.before.before.before.before.before.before.before.before.before.before.before.before.before.before.before.before.before.before.before.before.before.before.before.before.before.before.before.before.before.before.before.before.before.before.before.before.before.before.before.before.before.before.before.before.before.before.before.before.before.before.before.before.before.before.before.before.before.before.before.before.before.before.before.before.before.before.before.before.before.before.before.before.before.before.before) (diagram_at (nodes_of t) (f d.before.before.before.before.before.before.before.before.before.before.before.before.before.before.before.before.before.before.before.before.before.before.before.before.before.before.before.before.before))) (diagrams_of (nodes_of t) (list₁ d.before.before.before.before.before.before.before.before.before.before.before.before.before.before.before.before.before.before.before.before.before.before.before.before.before.before.before.before.before.before.before.before.before.before.before.before.before.before.before.before.before.before.before.before.before.before.before.before.before.before.before.before.before.before.before)))
+      (p d72.before.before.before.before.before.before.before.before) (n d72.before.before.before.before.before.before.before.before)
+      (diagram_at (nodes_of t) (f d24.before.before.before.before.before)))
+      (diagrams_of (nodes_of t) (list₁ d48.before.before.before.before.before.before.before)))
       d.turn_traced-rounds.result d.turn_traced-rounds.new.fixed
   fixed₁ =
-      let s = d.before.before.before.before.before.before.before.before.before.before.before.before.before.before.before.before.before.before.before.before.before.before.before.before.before.before.before.before.before.before.before.before.before.before.before.before.before.before.before.before.before.before.before.before.before.before.before.before.before.before.before.before.before.before.before.before.before.before.before.before.before.before.before.before.before.before.before.before.before.before.before.before.before.before.before.before.before.before.before.before in
+      let d12 = d.before.before.before.before.before.before.before.before.before.before.before.before in
+      let d24 = d12.before.before.before.before.before.before.before.before.before.before.before.before in
+      let d36 = d24.before.before.before.before.before.before.before.before.before.before.before.before in
+      let d48 = d36.before.before.before.before.before.before.before.before.before.before.before.before in
+      let d60 = d48.before.before.before.before.before.before.before.before.before.before.before.before in
+      let d72 = d60.before.before.before.before.before.before.before.before.before.before.before.before in
+      let s = d72.before.before.before.before.before.before.before.before in
       subst (λ (t : Table). Fixed (by_not (under_witness
-      (p d.before.before.before.before.before.before.before.before.before.before.before.before.before.before.before.before.before.before.before.before.before.before.before.before.before.before.before.before.before.before.before.before.before.before.before.before.before.before.before.before.before.before.before.before.before.before.before.before.before.before.before.before.before.before.before.before.before.before.before.before.before.before.before.before.before.before.before.before.before.before.before.before.before.before.before.before.before.before.before.before) (n d.before.before.before.before.before.before.before.before.before.before.before.before.before.before.before.before.before.before.before.before.before.before.before.before.before.before.before.before.before.before.before.before.before.before.before.before.before.before.before.before.before.before.before.before.before.before.before.before.before.before.before.before.before.before.before.before.before.before.before.before.before.before.before.before.before.before.before.before.before.before.before.before.before.before.before.before.before.before.before.before) (diagram_at (nodes_of t) (f d.before.before.before.before.before.before.before.before.before.before.before.before.before.before.before.before.before.before.before.before.before.before.before.before.before.before.before.before.before)))
+      (p d72.before.before.before.before.before.before.before.before) (n d72.before.before.before.before.before.before.before.before)
+      (diagram_at (nodes_of t) (f d24.before.before.before.before.before)))
       (diagrams_of (nodes_of t)
-      (list₁ d.before.before.before.before.before.before.before.before.before.before.before.before.before.before.before.before.before.before.before.before.before.before.before.before.before.before.before.before.before.before.before.before.before.before.before.before.before.before.before.before.before.before.before.before.before.before.before.before.before.before.before.before.before.before.before))) d.turn_traced-rounds.result
+      (list₁ d48.before.before.before.before.before.before.before))) d.turn_traced-rounds.result
       d.turn_traced-rounds.new.fixed)
-      (same₂ d.before.before.before.before.before.before.before.before.before.before.before.before.before.before.before.before.before.before.before.before.before.before.before.before.before.before.before.before.before) d.turn_traced-rounds.ensures.1
+      (same₂ d24.before.before.before.before.before) d.turn_traced-rounds.ensures.1
 
 pub by_negation-made-requires : goal.by_negation-made-requires
 by_negation-made-requires c =

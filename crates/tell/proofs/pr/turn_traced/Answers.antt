@@ -24,8 +24,11 @@ module _ (a : lts.After-apply tie.the-claims reads.Pre reads.Post tie.handed_cla
   made = outcome_of a.apply-h.new.vars a.apply-h.new.lows a.apply-h.new.highs a.apply-h.new.heads a.apply-h.new.links
       a.apply-h.result
 
-  made-is : made ≡ applied (before
-      a.before.before.before.before.before.before.before.before.before.before.before.before.before.before.before.before.before.before.before.before.before.before) (Literals a.args.witness.positive a.args.witness.negative) a.args.f.0 1
+  made-is :
+      let a12 = a.before.before.before.before.before.before.before.before.before.before.before.before in
+      made ≡ applied (before
+      a12.before.before.before.before.before.before.before.before.before.before) (Literals a.args.witness.positive a.args.witness.negative)
+      a.args.f.0 1
   made-is = a.apply-h.ensures.result_after
 
   memo-length : length a.apply-h.new.memo ≡ length a.args.memo.now

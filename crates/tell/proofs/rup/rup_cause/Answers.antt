@@ -71,8 +71,11 @@ module _ (c : lts.After-rup_traced tie.the-claims reads.Pre reads.Post tie.hande
       c.rup_traced-t.new.links
       c.rup_traced-t.result.count
 
-  traced : LineTraced (before
-      c.before.before.before.before.before.before.before.before.before.before.before.before.before.before.before.before.before.before.before.before.before.before.before.before.before) (diagrams_of (nodes_of (before c.before.before.before.before.before.before.before.before.before.before.before.before.before.before.before.before.before.before.before.before.before.before.before.before.before)) (live c.before.before.before.before.before.before.before.before.before.before.before.before.before.before.before.before.before.before.before.before.before.before.before.before.before)) (root c.before.before.before.before.before.before.before.before.before.before.before.before.before.before.before.before.before.before.before.before.before.before.before.before.before) c.rup_traced-t.result table₁
+  traced :
+      let c12 = c.before.before.before.before.before.before.before.before.before.before.before.before in
+      let c24 = c12.before.before.before.before.before.before.before.before.before.before.before.before in
+      LineTraced (before
+      c24.before) (diagrams_of (nodes_of (before c24.before)) (live c24.before)) (root c24.before) c.rup_traced-t.result table₁
       c.rup_traced-t.new.fixed
   traced =
       let c12 = c.before.before.before.before.before.before.before.before.before.before.before.before in

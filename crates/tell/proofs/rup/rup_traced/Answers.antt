@@ -23,7 +23,9 @@ module _ (a : lts.After-support_from tie.the-claims reads.Pre reads.Post tie.han
   abbrev memo₁ : List ℕ
   memo₁ = a.support_from-word.new.memo
 
-  worded : Worded (before a.before.before.before.before.before.before.before.before.before.before.before.before.before.before.before.before.before.before.before.before) a.args.live.now a.supports_of.new.words a.args.g.0
+  worded :
+      let a12 = a.before.before.before.before.before.before.before.before.before.before.before.before in
+      Worded (before a12.before.before.before.before.before.before.before.before) a.args.live.now a.supports_of.new.words a.args.g.0
       a.support_from-word.result
   unfolding nodes_of
   worded = record {
@@ -35,10 +37,14 @@ module _ (a : lts.After-support_from tie.the-claims reads.Pre reads.Post tie.han
   memo-kept : length memo₁ ≡ length a.args.memo.now
   memo-kept = a.support_from-word.auto.memo ∙ a.supports_of.auto.memo
 
-  negatable : Negatable (before
-      a.before.before.before.before.before.before.before.before.before.before.before.before.before.before.before.before.before.before.before.before) a.args.live.now memo₁ a.args.g.0
-  negatable = memo-again (before
-      a.before.before.before.before.before.before.before.before.before.before.before.before.before.before.before.before.before.before.before.before) a.args.live.now a.args.memo.now memo₁ a.args.g.0 memo-kept
+  negatable :
+      let a12 = a.before.before.before.before.before.before.before.before.before.before.before.before in
+      Negatable (before
+      a12.before.before.before.before.before.before.before.before) a.args.live.now memo₁ a.args.g.0
+  negatable =
+      let a12 = a.before.before.before.before.before.before.before.before.before.before.before.before in
+      memo-again (before
+      a12.before.before.before.before.before.before.before.before) a.args.live.now a.args.memo.now memo₁ a.args.g.0 memo-kept
       a.requires.fact.0
 
 pub supports_of-requires : goal.supports_of-requires

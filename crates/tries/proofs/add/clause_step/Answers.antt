@@ -40,11 +40,16 @@ module _ (a : lts.After-make tie.the-claims reads.Pre reads.Post tie.handed_clau
   apart : shares 64 a.args.clause.literals.positive a.args.clause.literals.negative ≡ false
   apart = sym a.shared.ensures ∙ a.if-shared.false
 
-  larger : Grown (table_in (lent
-      a.before.before.before.before.before.before.before.before.before.before.before.before.before.before.before.before.before.before.before.before.before) a.args.st.count) (clause_of_words a.args.clause.literals)
+  larger :
+      let a12 = a.before.before.before.before.before.before.before.before.before.before.before.before in
+      Grown (table_in (lent
+      a12.before.before.before.before.before.before.before.before.before) a.args.st.count) (clause_of_words a.args.clause.literals)
       (outcome_at table₁ a.make-made.result)
-  larger = grown (table_in (lent
-      a.before.before.before.before.before.before.before.before.before.before.before.before.before.before.before.before.before.before.before.before.before) a.args.st.count) (held a.before.before.before.before.before.before.before.before.before.before.before.before.before.before.before.before.before.before.before.before.before).entries.good a.args.clause.literals table₁
+  larger =
+      let a12 = a.before.before.before.before.before.before.before.before.before.before.before.before in
+      grown (table_in (lent
+      a12.before.before.before.before.before.before.before.before.before) a.args.st.count)
+      (held a12.before.before.before.before.before.before.before.before.before).entries.good a.args.clause.literals table₁
       a.make-made.result a.make-made.ensures
 
 -- it is tried
@@ -56,32 +61,47 @@ module _ (b : lts.After-both_tries tie.the-claims reads.Pre reads.Post tie.hande
   abbrev scratch₂ : List ℕ
   scratch₂ = b.both_tries-j.new.scratch
 
-  back : table₂ ≡ table₁ b.before.before.before.before.before.before.before.before.before.before.before.before.before.before.before.before.before.before.before.before.before.before
+  back :
+      let b12 = b.before.before.before.before.before.before.before.before.before.before.before.before in
+      table₂ ≡ table₁ b12.before.before.before.before.before.before.before.before.before.before
   back = b.both_tries-j.ensures.fact.0
 
-  tried : BothTried (table₁
-      b.before.before.before.before.before.before.before.before.before.before.before.before.before.before.before.before.before.before.before.before.before.before) (live_in b.args.members.now b.args.struck.now b.args.st)
+  tried :
+      let b12 = b.before.before.before.before.before.before.before.before.before.before.before.before in
+      BothTried (table₁
+      b12.before.before.before.before.before.before.before.before.before.before) (live_in b.args.members.now b.args.struck.now b.args.st)
       b.args.clause b.make-made.result b.both_tries-j.result
   tried = b.both_tries-j.ensures.fact.1
 
   few-rounds : b.both_tries-j.result.rounds ≤ most_rounds
   few-rounds = both_most _ _ _ _ _ tried
 
-  added : Added (lent b.before.before.before.before.before.before.before.before.before.before.before.before.before.before.before.before.before.before.before.before.before.before.before.before.before.before.before.before.before.before.before.before.before.before.before.before.before.before.before.before.before.before.before) b.args.st (table₁ b.before.before.before.before.before.before.before.before.before.before.before.before.before.before.before.before.before.before.before.before.before.before) b.make-made.result b.both_tries-j.result
+  added :
+      let b12 = b.before.before.before.before.before.before.before.before.before.before.before.before in
+      let b24 = b12.before.before.before.before.before.before.before.before.before.before.before.before in
+      let b36 = b24.before.before.before.before.before.before.before.before.before.before.before.before in
+      Added (lent b36.before.before.before.before.before.before.before) b.args.st
+      (table₁ b12.before.before.before.before.before.before.before.before.before.before) b.make-made.result b.both_tries-j.result
       b.args.clause
-  added = record {
-    apart = apart
-        b.before.before.before.before.before.before.before.before.before.before.before.before.before.before.before.before.before.before.before.before.before.before;
-    made = b.make-made.ensures;
-    tried = tried;
-  }
+  added =
+      let b12 = b.before.before.before.before.before.before.before.before.before.before.before.before in
+      record {
+        apart = apart
+            b12.before.before.before.before.before.before.before.before.before.before;
+        made = b.make-made.ensures;
+        tried = tried;
+      }
 
   scratch-room : 4096 ≤ length scratch₂
-  scratch-room = omega (
-    arith,
-    b.both_tries-j.auto.scratch,
-    (held b.before.before.before.before.before.before.before.before.before.before.before.before.before.before.before.before.before.before.before.before.before.before.before.before.before.before.before.before.before.before.before.before.before.before.before.before.before.before.before.before.before.before.before).entries.room,
-  )
+  scratch-room =
+      let b12 = b.before.before.before.before.before.before.before.before.before.before.before.before in
+      let b24 = b12.before.before.before.before.before.before.before.before.before.before.before.before in
+      let b36 = b24.before.before.before.before.before.before.before.before.before.before.before.before in
+      omega (
+        arith,
+        b.both_tries-j.auto.scratch,
+        (held b36.before.before.before.before.before.before.before).entries.room,
+      )
 
 pub returns-then-st-ge1024 : goal.returns-then-st-ge1024
 returns-then-st-ge1024 c =

@@ -37,11 +37,17 @@ module _ (a : lts.After-by_negation tie.the-claims reads.Pre reads.Post tie.hand
   abbrev list₁ : List ℕ
   list₁ = a.by_negation-made.new.list
 
-  by-negation : (b : Bool) → a.by_negation-made.result.full ≡ b → ByNegation
-      (before a.before.before.before.before.before.before.before.before.before.before.before.before.before.before.before.before.before.before.before.before) (members a.before.before.before.before.before.before.before.before.before.before.before.before.before.before.before.before.before.before.before.before) (root a.before.before.before.before.before.before.before.before.before.before.before.before.before.before.before.before.before.before.before.before) b table₁ list₁
+  by-negation :
+      let a12 = a.before.before.before.before.before.before.before.before.before.before.before.before in
+      (b : Bool) → a.by_negation-made.result.full ≡ b → ByNegation
+      (before a12.before.before.before.before.before.before.before.before)
+      (members a12.before.before.before.before.before.before.before.before)
+      (root a12.before.before.before.before.before.before.before.before) b table₁ list₁
   by-negation b e =
+      let a12 = a.before.before.before.before.before.before.before.before.before.before.before.before in
       subst (λ (full : Bool). ByNegation (before
-      a.before.before.before.before.before.before.before.before.before.before.before.before.before.before.before.before.before.before.before.before) (members a.before.before.before.before.before.before.before.before.before.before.before.before.before.before.before.before.before.before.before.before) (root a.before.before.before.before.before.before.before.before.before.before.before.before.before.before.before.before.before.before.before.before) full table₁ list₁) e a.by_negation-made.ensures.fact_3
+      a12.before.before.before.before.before.before.before.before) (members a12.before.before.before.before.before.before.before.before)
+      (root a12.before.before.before.before.before.before.before.before) full table₁ list₁) e a.by_negation-made.ensures.fact_3
 
 pub by_negation-made-requires : goal.by_negation-made-requires
 by_negation-made-requires c = record {
