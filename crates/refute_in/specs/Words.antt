@@ -12,7 +12,7 @@ form_named byte profile =
     (cond (eqb byte 116) (Known (in_form Text profile)) (cond (eqb byte 98) (Known (in_form Binary profile)) Unknown))
 
 -- A letter for the form, and behind it a `c` (99) for the consequence profile (02, 11/14); no other word.
-abbrev pub mode_named : List ℕ → Named
+unfoldable pub mode_named : List ℕ → Named
 mode_named word =
     cond (eqb (length word) 1) (form_named (get_or word 0 0) false)
     (cond (eqb (length word) 2) (cond (eqb (get_or word 1 0) 99) (form_named (get_or word 0 0) true) Unknown) Unknown)

@@ -42,6 +42,7 @@ fn form_of(byte: u8, consequence: bool) -> Named
     Named::Unknown
 }
 
+#[tactic(auto, unfolding(crate::specs::Words::mode_named))]
 fn mode_of(word: &[u8]) -> Named
     ensures { result ≡ mode_named word.now }
 {
