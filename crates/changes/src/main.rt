@@ -5,7 +5,7 @@
 mod comments;
 mod indexes;
 mod orders;
-mod sets;
+mod set_lines;
 mod strikes;
 mod texts;
 
@@ -28,10 +28,10 @@ fn main(rt: HostRuntime) -> io::Result<()> {
     indexes::wrong_links(&rt)?;
     indexes::single_calls(&rt)?;
     indexes::checked(&rt)?;
-    sets::parities(&rt)?;
-    sets::at_leasts(&rt)?;
-    sets::five_places(&rt)?;
-    sets::single_calls(&rt)?;
+    set_lines::parities(&rt)?;
+    set_lines::at_leasts(&rt)?;
+    set_lines::five_places(&rt)?;
+    set_lines::single_calls(&rt)?;
     texts::accepted(&rt)?;
     texts::refused(&rt)?;
     texts::in_formula(&rt)?;
