@@ -142,7 +142,7 @@ pub fn report<'a>(
         ≡ line_bytes (said mode first formula.now second proof.now) }
     ensures line_unchanged { drop result.length line.new ≡ drop result.length line.old }
     ensures status_value { result.status ≡ status_of (said mode first formula.now second proof.now).number }
-    ensures prefix_len { result.length ≤ length line.new }
+    ensures prefix_len { (result.length ≤ length line.new) × (result.length ≡ length (take result.length line.new)) }
     ensures length_value { result.length ≡ length (line_bytes (said mode first formula.now second proof.now)) }
     ensures unsatisfiable { result.status ≡ 0 → Unsatisfiable formula.now }
 {

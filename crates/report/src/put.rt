@@ -38,7 +38,7 @@ pub fn put_field(n: u64, parting: u8, line: &mut [u8], at: usize) -> usize
 pub fn put_line(told: Line, line: &mut [u8; 105]) -> usize
     ensures line_after { take result line.new ≡ line_bytes told }
     ensures line_unchanged { drop result line.new ≡ drop result line.old }
-    ensures prefix_len { result ≤ length line.new }
+    ensures prefix_len { (result ≤ length line.new) × (result ≡ length (take result line.new)) }
 {
     put_fields(told, line)
 }
@@ -47,7 +47,7 @@ fn put_fields(told: Line, line: &mut [u8]) -> usize
     requires { 105 ≤ length line.old }
     ensures line_after { take result line.new ≡ line_bytes told }
     ensures line_unchanged { drop result line.new ≡ drop result line.old }
-    ensures prefix_len { result ≤ length line.new }
+    ensures prefix_len { (result ≤ length line.new) × (result ≡ length (take result line.new)) }
 {
     let after_number = put_field(told.number as u64, b' ', line, 0);
     let after_place = put_field(told.place as u64, b' ', line, after_number);

@@ -2,7 +2,6 @@
 -- By the callees' contracts alone. Assumes nothing.
 use mathlib.Core.Path.{sym, ap, ◌∙◌}
 use lib.ListN.{length}
-use lib.Seq.{length-take-le}
 use lib.ListN.{length}
 use Rattle.report.specs.declared.Line.{Line}
 use Rattle.report.specs.Line.{line_bytes}
@@ -19,6 +18,6 @@ returns c =
       line_unchanged = c.put_line-length.ensures.line_unchanged;
       status_value = status;
       prefix_len = c.put_line-length.ensures.prefix_len;
-      length_value = sym (length-take-le _ _ c.put_line-length.ensures.prefix_len) ∙ ap length bytes;
+      length_value = c.put_line-length.ensures.prefix_len.1 ∙ ap length bytes;
       unsatisfiable = λ z. status-refuted _ _ _ _ _ (sym status ∙ z);
     }

@@ -1,7 +1,6 @@
 -- The line put and the status are those of the report over the lent table. By the callees' contracts alone. Assumes nothing.
 use mathlib.Core.Path.{sym, ap, ◌∙◌}
 use lib.ListN.{length}
-use lib.Seq.{length-take-le}
 use Rattle.report.specs.declared.Line.{Line}
 use Rattle.report.specs.Files.{status_of}
 use Rattle.report.specs.Line.{line_bytes}
@@ -21,7 +20,7 @@ returns c =
         left_so _ _ _ _ _ _ told,
         bytes,
         put.line_unchanged,
-        sym (length-take-le _ _ put.prefix_len) ∙ ap length bytes,
+        put.prefix_len.1 ∙ ap length bytes,
         status,
       );
       unsatisfiable = λ z. told-refuted _ _ _ _ _ _ _ _ _ (sym status ∙ z);

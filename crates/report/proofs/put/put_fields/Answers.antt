@@ -1,6 +1,8 @@
 -- The five fields, one after the other. Assumes nothing.
 use Prim.Native.Nat.{◌≤◌}
+use mathlib.Core.Path.{sym}
 use lib.ListN.{length}
+use lib.Seq.{length-take-le}
 use native.Mathlib.Omega.{arith}
 use Rattle.report.proofs.Putting.{put_whole}
 use Rattle.report.proofs.put.put_fields.Goals as goal
@@ -25,4 +27,4 @@ returns c =
     let all =
     put_whole _ c.put_field-after_number.ensures.put c.put_field-after_place.ensures.put c.put_field-after_lines.ensures.put
     c.put_field-after_rounds.ensures.put c.put_field.ensures.put in
-    record { line_after = all.held; line_unchanged = all.rest; prefix_len = within }
+    record { line_after = all.held; line_unchanged = all.rest; prefix_len = (within, sym (length-take-le _ _ within)) }
