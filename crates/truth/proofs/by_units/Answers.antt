@@ -1,17 +1,11 @@
 -- `by_units` goes down the variables: what is left to be done is what is to be done. Assumes nothing.
-use borrow.Author.Rules.{rules}
-use mathlib.Core.Path.{sym, ◌∙◌}
-use mathlib.Core.Bool.{true, false}
-use native.Mathlib.Omega.{arith}
-use Rattle.truth.proofs.Forms.{literals-step, literals-last, units-is}
+use Rattle.std.proofs.Common.{true, false}
+use Rattle.truth.specs.Tables.{word_unit}
+use Rattle.truth.proofs.Forms.{literals_down}
 use Rattle.truth.proofs.by_units.Goals as goal
 
 pub loop-v-preserved : goal.loop-v-preserved
-loop-v-preserved c = (
-  search rules,
-  literals-step _ _ _ _ _ _ _ c.loop-v-test.true
-      c.is_unit-p.ensures c.is_unit-n.ensures c.make_by-value.ensures ∙ c.loop-v.invariant.1,
-)
-
-pub returns : goal.returns
-returns c = units-is _ _ _ (sym (literals-last _ _ _ _ (omega (arith, c.loop-v-test.false))) ∙ c.loop-v.invariant.1)
+loop-v-preserved c =
+    let u = c.args.u in
+    let down = literals_down c.loop-v.v (λ i. word_unit u i true) (λ i. word_unit u i false) c.loop-v.value c.loop-v-test.true in
+    cc
