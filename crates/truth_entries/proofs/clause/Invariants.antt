@@ -1,13 +1,9 @@
 -- `clause`: the word of a clause. The idea: what is left of the loop is what is left of the definition's recursion. Assumes nothing.
 use mathlib.Core.Path.{◌≡◌}
-use Prim.Native.Nat.{◌≤◌}
 use Rattle.meaning.specs.Words.{in_word}
 use Rattle.truth_entries.specs.Made.{clause_down, clause_word}
 use Rattle.truth_entries.proofs.clause.Given as goal
 
 abbrev pub invariant-loop-v : goal.invariant-loop-v
-invariant-loop-v l = (l.v ≤ 6) × (clause_down (in_word l.positive) (in_word l.negative) l.v l.w ≡ clause_word (in_word l.positive)
-    (in_word l.negative))
-
-abbrev pub decreases-loop-v : goal.decreases-loop-v
-decreases-loop-v l = l.v
+invariant-loop-v l = clause_down (in_word l.positive) (in_word l.negative) l.v l.w ≡ clause_word (in_word l.positive)
+    (in_word l.negative)
