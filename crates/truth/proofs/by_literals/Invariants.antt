@@ -5,5 +5,5 @@ use Rattle.truth.specs.Tables.{by_literals}
 use Rattle.truth.proofs.by_literals.Given as goal
 
 abbrev pub invariant-loop-v : goal.invariant-loop-v
-invariant-loop-v l = by_literals l.v (in_word l.positive) (in_word l.negative) l.value ≡ by_literals 6
-    (in_word l.positive) (in_word l.negative) l.w
+invariant-loop-v l = by_literals l.v (in_word l.by.positive) (in_word l.by.negative) l.value ≡ by_literals 6
+    (in_word l.by.positive) (in_word l.by.negative) l.w

@@ -5,5 +5,5 @@ use Rattle.truth_entries.specs.Made.{clause_down, clause_word}
 use Rattle.truth_entries.proofs.clause.Given as goal
 
 abbrev pub invariant-loop-v : goal.invariant-loop-v
-invariant-loop-v l = clause_down (in_word l.positive) (in_word l.negative) l.v l.w ≡ clause_word (in_word l.positive)
-    (in_word l.negative)
+invariant-loop-v l = clause_down (in_word l.literals.positive) (in_word l.literals.negative) l.v l.w ≡ clause_word (in_word l.literals.positive)
+    (in_word l.literals.negative)
