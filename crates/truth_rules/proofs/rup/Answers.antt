@@ -3,11 +3,8 @@ use native.Mathlib.Omega.{arith}
 use Rattle.truth_rules.proofs.LineWords.{rup-says}
 use Rattle.truth_rules.proofs.rup.Goals as goal
 
-pub returns : goal.returns
-returns c = record {
-  line_says = rup-says c.args.g c.negate-not.result (omega (arith, c.ranges.g))
-      c.requires.1 c.negate-not.ensures c.args.live.now
-      c.all_by.new.to c.all_by.ensures c.unit_prop-p.result
-      c.unit_prop-p.ensures.says;
-  rounds_bound = c.unit_prop-p.ensures.rounds_bound;
-}
+pub returns-clause-line_says : goal.returns-clause-line_says
+returns-clause-line_says c = rup-says c.args.g c.negate-not.result (omega (arith, c.ranges.g))
+    c.requires.1 c.negate-not.ensures c.args.live.now
+    c.all_by.new.to c.all_by.ensures c.unit_prop.result
+    c.unit_prop.ensures.says

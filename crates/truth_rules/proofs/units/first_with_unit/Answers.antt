@@ -1,21 +1,18 @@
--- `first_with_unit`: the first member with a unit. The idea: no member before the loop's place has one. Assumes nothing.
-use Prim.Native.Nat.{◌-◌}
-use mathlib.Core.Path.{refl}
-use native.Mathlib.Omega.{arith}
-use Rattle.truth_rules.proofs.UnitWords.{first-here, first-later, first-none}
+-- `first_with_unit`: the first word that has units. Assumes nothing.
+use Rattle.std.proofs.Common.{◌∙◌, sym, ap, rules, tests}
+use Rattle.std.proofs.lemmas.Iterator.{YieldsList-from_slice}
+use Rattle.std.proofs.lemmas.Iterator.Consumers.{YieldsList-from_copied}
+use Rattle.std.proofs.lemmas.Iterator.Adapters.{option_map_id}
+use Rattle.std.proofs.lemmas.Iterator.Search.{find_from_yields_List}
+use Rattle.meaning.specs.Rules.{has_unit}
+use Rattle.truth.specs.Tables.{diagram_of}
+use Rattle.truth_rules.specs.Lists.{taken_of}
+use Rattle.truth_rules.proofs.UnitWords.{first_found}
 use Rattle.truth_rules.proofs.units.first_with_unit.Goals as goal
 
-pub loop-i-init : goal.loop-i-init
-loop-i-init c = (omega arith, refl)
-
-pub returns-then-has_unit : goal.returns-then-has_unit
-returns-then-has_unit c = first-here c.args.list.now c.loop-i.i c.loop-i.invariant
-    c.loop-i-test.true c.has_unit.result c.has_unit.ensures c.if-has_unit.true
-
-pub loop-i-preserved : goal.loop-i-preserved
-loop-i-preserved c = first-later c.args.list.now c.loop-i.i c.loop-i.invariant
-    c.loop-i-test.true c.has_unit.result c.has_unit.ensures c.if-has_unit.false
-
 pub returns : goal.returns
-returns c = first-none c.args.list.now c.loop-i.i c.loop-i.invariant
-    (omega (arith, c.loop-i-test.false))
+returns c =
+    let xs = c.args.list.now in
+    let found = find_from_yields_List (λ w. has_unit 6 6 (diagram_of w)) _ _ c.find.result c.find.ensures.ran
+    (YieldsList-from_copied (YieldsList-from_slice xs cc)) (λ x b q k. search (rules, tests)) in
+    ap taken_of (sym (option_map_id c.find.result) ∙ found) ∙ first_found xs
