@@ -1,13 +1,8 @@
 -- `all_by_literals` fills a list with the cofactors by literals, place after place. Assumes nothing.
-use Prim.Native.Nat.{◌-◌}
-use lib.ListN.{length}
+use Rattle.std.proofs.Common.{◌≡◌, ◌<◌, ℕ, get_or}
 use Rattle.meaning.specs.Words.{in_word}
 use Rattle.truth.specs.Tables.{by_literals}
-use Rattle.truth_rules.proofs.Walks.{Filled}
 use Rattle.truth_paths.proofs.all_by_literals.Given as goal
 
 abbrev pub invariant-loop-i : goal.invariant-loop-i
-invariant-loop-i l = Filled (by_literals 6 (in_word l.positive) (in_word l.negative)) l.list l.initial.to l.to l.i
-
-abbrev pub decreases-loop-i : goal.decreases-loop-i
-decreases-loop-i l = length l.list - l.i
+invariant-loop-i l = (j : ℕ) → j < l.i → get_or l.to j 0 ≡ by_literals 6 (in_word l.by.positive) (in_word l.by.negative) (get_or l.list j 0)
