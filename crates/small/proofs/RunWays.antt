@@ -8,7 +8,7 @@ use native.Mathlib.Omega.{arith}
 use lib.ListN.{length, set, take, replicate, length-set}
 use lib.Seq.{take-suc-set, length-take-le}
 use lib.Dec.{eqb, ltb, leb}
-use borrow.Author.Tests.{leb-true, eqb-true, lt-leb, le-leb, eq-eqb, ne_eqb}
+use borrow.Author.Tests.{leb-true, eqb-true, lt-leb, le-leb}
 use Rattle.meaning.proofs.Booleans.{and_both}
 use Rattle.words.specs.Sets.{literals_of}
 use Rattle.dimacs.specs.declared.Header.{Header}
@@ -32,9 +32,9 @@ use Rattle.records.specs.declared.Record.TheVariants.{NoRecord}
 use Rattle.records.specs.Records.{record_at, length_of, number_of}
 use Rattle.records.proofs.Laws.{record-takes, record-within}
 use Rattle.small.specs.declared.State.{State}
-use Rattle.small.specs.declared.Step.{Step}
-use Rattle.small.specs.declared.Step.TheVariants.{Next, Stop}
-use Rattle.small.specs.declared.Made.{Made}
+use Rattle.std.proofs.Common.{Result, Ok, Err}
+use Rattle.small.specs.Stops.{stop_at}
+use Rattle.small.specs.declared.Stop.{Stop}
 use Rattle.small.specs.declared.SmallChecked.{SmallChecked}
 use Rattle.small.specs.declared.Start.{Start}
 use Rattle.small.specs.declared.Start.TheVariants.{Begun, Refused}
@@ -62,20 +62,20 @@ held-6 n l st H = record {
   rounds = H.rounds;
 }
 
-module _ (n : ℕ) (l : WordsLent) (ws : WordState) (more : Bool) (s : Step) (r : Record) where
+module _ (n : ℕ) (l : WordsLent) (ws : WordState) (more : Bool) (s : Result State Stop) (r : Record) where
   kind : (r' : Record) → r ≡ r' → Stepped n l (word_step n ws more r') s → Stepped n l (word_step n ws more r) s
   kind r' e S = subst (λ (x : Record). Stepped n l (word_step n ws more x) s) (sym e) S
 
   along : (x y : WordStep) → x ≡ y → Stepped n l y s → Stepped n l x s
   along x y e S = subst (λ (z : WordStep). Stepped n l z s) (sym e) S
 
-  pub step-node : (b : NodeBody) → r ≡ NodeEntry b → (m : Made) → word_node n ws b ≡ made_step ws m → Stepped n l (made_step ws m) s →
+  pub step-node : (b : NodeBody) → r ≡ NodeEntry b → (m : Result ℕ ℕ) → word_node n ws b ≡ made_step ws m → Stepped n l (made_step ws m) s →
       Stepped
       n l (word_step n ws more r) s
   unfolding word_step
   step-node b e m is S = kind (NodeEntry b) e (along (word_node n ws b) (made_step ws m) is S)
 
-  pub step_set : (k : SetKind) (b : SetBody) → r ≡ SetEntry k b → (m : Made) → word_set n ws k b ≡ made_step ws m → Stepped n l
+  pub step_set : (k : SetKind) (b : SetBody) → r ≡ SetEntry k b → (m : Result ℕ ℕ) → word_set n ws k b ≡ made_step ws m → Stepped n l
       (made_step ws m) s → Stepped n l (word_step n ws more r) s
   unfolding word_step
   step_set k b e m is S = kind (SetEntry k b) e (along (word_set n ws k b) (made_step ws m) is S)
@@ -97,15 +97,15 @@ module _ (n : ℕ) (l : WordsLent) (ws : WordState) (more : Bool) (s : Step) (r 
   unfolding word_step
   step_end e S = kind End e S
 
-  pub step_cut : r ≡ CutShort → s ≡ Stop 10 0 → Stepped n l (word_step n ws more r) s
+  pub step_cut : r ≡ CutShort → s ≡ Err (stop_at 10 0) → Stepped n l (word_step n ws more r) s
   unfolding word_step
   step_cut e is = kind CutShort e (subst (Stepped n l (halt 10 0)) (sym is) (record { says = refl; leaves = omega arith }))
 
-  pub step-unknown : r ≡ UnknownKind → s ≡ Stop 9 0 → Stepped n l (word_step n ws more r) s
+  pub step-unknown : r ≡ UnknownKind → s ≡ Err (stop_at 9 0) → Stepped n l (word_step n ws more r) s
   unfolding word_step
   step-unknown e is = kind UnknownKind e (subst (Stepped n l (halt 9 0)) (sym is) (record { says = refl; leaves = omega arith }))
 
-  pub step-none : r ≡ NoRecord → s ≡ Stop 10 0 → Stepped n l (word_step n ws more r) s
+  pub step-none : r ≡ NoRecord → s ≡ Err (stop_at 10 0) → Stepped n l (word_step n ws more r) s
   unfolding word_step
   step-none e is = kind NoRecord e (subst (Stepped n l (halt 10 0)) (sym is) (record { says = refl; leaves = omega arith }))
 
@@ -165,22 +165,22 @@ module _ (n : ℕ) (proof : List ℕ) (whole : Said) (l : WordsLent) (st : State
   unfolding word_records
   step-goes k ws' e = rw (there ∙ e)
 
-  pub going-near : (number offset : ℕ) (x : Step) → x ≡ Stop number offset → Stepped n l' (word_step n (state_of l st) more r) x →
+  pub going-near : (number offset : ℕ) (x : Result State Stop) → x ≡ Err (stop_at number offset) → Stepped n l' (word_step n (state_of l st) more r) x →
       offset ≤ 1
   going-near number offset x e S = (subst (Stepped n l' (word_step n (state_of l st) more r)) e S).leaves
 
-  pub going-stop : (number offset : ℕ) (x : Step) → x ≡ Stop number offset → Stepped n l' (word_step n (state_of l st) more r) x
+  pub going-stop : (number offset : ℕ) (x : Result State Stop) → x ≡ Err (stop_at number offset) → Stepped n l' (word_step n (state_of l st) more r) x
       → whole ≡ say_at number (at + offset) (state_of l st)
   going-stop number offset x e S =
       let z : G.steps ≡ suc (G.steps - 1) = omega (arith, G.enough) in
       unrolled (G.steps - 1) z ∙ step-halts (G.steps - 1) number offset
-      (sym (subst (λ (y : Step). Stepped n l' (word_step n (state_of l st) more r) y) e S).says)
+      (sym (subst (λ (y : Result State Stop). Stepped n l' (word_step n (state_of l st) more r) y) e S).says)
 
-  pub going_next : (st' : State) (x : Step) → x ≡ Next st' → Stepped n l' (word_step n (state_of l st) more r) x →
+  pub going_next : (st' : State) (x : Result State Stop) → x ≡ Ok st' → Stepped n l' (word_step n (state_of l st) more r) x →
       Going n proof whole l' st'
       next × (at < next)
   going_next st' x e S =
-      let T : Stepped n l' (word_step n (state_of l st) more r) (Next st') =
+      let T : Stepped n l' (word_step n (state_of l st) more r) (Ok st') =
       subst (Stepped n l' (word_step n (state_of l st) more r)) e S in
       let z : G.steps ≡ suc (G.steps - 1) = omega (arith, G.enough) in
       let form : number_of r ≡ 0 = onward-form n (state_of l st) more r (state_of l' st') (sym T.says) in
@@ -284,24 +284,6 @@ map-zero [] = refl
 map-zero (x ∷ list) = ap (λ (l : List ℕ). 0 ∷ l) (map-zero list)
 
 module _ (members struck scratch : List ℕ) where
-  pub fits-short : length members < 2048 → false ≡ small_fits members struck scratch
-  unfolding small_fits
-  fits-short p = sym (ap (λ (c : Bool). c && (eqb (length struck) (length members) && leb 4096 (length scratch)))
-      (lt-leb 2048 (length members) p))
-
-  pub fits-even : 2048 ≤ length members → length struck ≡ length members → leb 4096 (length scratch) ≡ small_fits members struck scratch
-  unfolding small_fits
-  fits-even p e = sym (ap₂ (λ (c d : Bool). c && (d && leb 4096 (length scratch))) (le-leb 2048 (length members) p)
-      (eq-eqb (length struck) (length members) e))
-
-  pub fits-uneven : 2048 ≤ length members → (length struck ≡ length members → ⊥) → eqb (length struck) (length members) ≡ small_fits members
-      struck scratch
-  unfolding small_fits
-  fits-uneven p e =
-      ne_eqb (length struck) (length members) e
-      ∙ sym (ap₂ (λ (c d : Bool). c && (d && leb 4096 (length scratch))) (le-leb 2048 (length members) p)
-      (ne_eqb (length struck) (length members) e))
-
   pub fits-sizes : small_fits members struck scratch ≡ true → (2048 ≤ length members) × (length struck ≡ length members) ×
       (4096 ≤ length scratch)
   unfolding small_fits

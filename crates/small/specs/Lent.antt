@@ -1,5 +1,5 @@
 -- The lists that the code works in, as the state that they hold. No call open to others cites this file.
-use Rattle.std.specs.Prelude.{◌≡◌, ◌≢◌, not, ◌&&◌, ◌||◌, cond, List, ℕ, suc, ◌+◌, ◌*◌, ◌≤◌, ◌<◌, length, take, eqb, leb}
+use Rattle.std.specs.Prelude.{◌≡◌, ◌≢◌, not, ◌&&◌, ◌||◌, cond, Result, Ok, Err, List, ℕ, suc, ◌+◌, ◌*◌, ◌≤◌, ◌<◌, length, take, eqb, leb}
 use Rattle.words.specs.declared.Literals.{Literals}
 use Rattle.meaning.specs.Rules.{Line}
 use Rattle.meaning.specs.Words.{in_word}
@@ -7,10 +7,7 @@ use Rattle.records.specs.declared.Rule.{Rule}
 use Rattle.records.specs.declared.Rule.TheVariants.{Rup, Pr, Path}
 use Rattle.truth.specs.Tables.{ones, by_literals}
 use Rattle.small.specs.declared.State.{State}
-use Rattle.small.specs.declared.Step.{Step}
-use Rattle.small.specs.declared.Step.TheVariants.{Next, Stop}
-use Rattle.small.specs.declared.Made.{Made}
-use Rattle.small.specs.declared.Made.TheVariants as made
+use Rattle.small.specs.declared.Stop.{Stop}
 use Rattle.small.specs.declared.Start.{Start}
 use Rattle.small.specs.declared.Start.TheVariants as start
 use Rattle.small.specs.declared.SmallChecked.{SmallChecked}
@@ -39,14 +36,14 @@ state_of l st = record {
   refuted = st.refuted;
 }
 
-abbrev pub step_of : WordsLent → Step → WordStep
-step_of l (Next st) = onward (state_of l st)
-step_of l (Stop number offset) = halt number offset
+abbrev pub step_of : WordsLent → Result State Stop → WordStep
+step_of l (Ok st) = onward (state_of l st)
+step_of l (Err stop) = halt stop.number stop.offset
 
 -- What a record that makes an entry comes to.
-abbrev pub made_step : WordState → Made → WordStep
-made_step ws (made.Refused number) = halt number 0
-made_step ws (made.Word w) = onward (with_word ws w)
+abbrev pub made_step : WordState → Result ℕ ℕ → WordStep
+made_step ws (Err number) = halt number 0
+made_step ws (Ok w) = onward (with_word ws w)
 
 -- Sizes that every state keeps: 12,288 is six rounds for each of 2,048 members.
 pub record Held (n : ℕ) (l : WordsLent) (st : State) : Type 0 where
@@ -60,12 +57,12 @@ pub record Held (n : ℕ) (l : WordsLent) (st : State) : Type 0 where
   pub rounds : st.rounds ≤ st.lines * 12288
 
 -- The next state is held; a record ends the proof at its first byte or at its second.
-abbrev pub HeldAfter : ℕ → WordsLent → Step → Type 0
-HeldAfter n l (Next st) = Held n l st
-HeldAfter n l (Stop number offset) = offset ≤ 1
+abbrev pub HeldAfter : ℕ → WordsLent → Result State Stop → Type 0
+HeldAfter n l (Ok st) = Held n l st
+HeldAfter n l (Err stop) = stop.offset ≤ 1
 
 -- A step comes to what the definition says, and leaves the lists l.
-pub record Stepped (n : ℕ) (l : WordsLent) (said : WordStep) (r : Step) : Type 0 where
+pub record Stepped (n : ℕ) (l : WordsLent) (said : WordStep) (r : Result State Stop) : Type 0 where
   pub says : step_of l r ≡ said
   pub leaves : HeldAfter n l r
 
@@ -82,9 +79,9 @@ Begins (start.Begun made) = made ≤ 1024
 Begins (start.Refused number place) = Unit {0}
 
 -- A word that is made has a place among the entries.
-abbrev pub EntryFits : ℕ → Made → Type 0
-EntryFits entries (made.Refused number) = Unit {0}
-EntryFits entries (made.Word w) = entries < 4096
+abbrev pub EntryFits : ℕ → Result ℕ ℕ → Type 0
+EntryFits entries (Err number) = Unit {0}
+EntryFits entries (Ok w) = entries < 4096
 
 -- ---- next states
 
@@ -121,26 +118,26 @@ state_with_line st rounds g = record {
 -- ---- lines
 
 -- The tests of a root g that is there, in the order of its rule: 16, 22 and 17 of RUP and path lines, 22, 17 and 18 of PR lines; or g.
-abbrev pub quiet_test : ℕ → ℕ → ℕ → ℕ → Made
+abbrev pub quiet_test : ℕ → ℕ → ℕ → ℕ → Result ℕ ℕ
 quiet_test positive negative lines g =
-    cond (not (eqb positive 0 && eqb negative 0)) (made.Refused 16)
-    (cond (leb 1024 lines) (made.Refused 22) (cond (eqb g ones) (made.Refused 17) (made.Word g)))
+    cond (not (eqb positive 0 && eqb negative 0)) (Err 16)
+    (cond (leb 1024 lines) (Err 22) (cond (eqb g ones) (Err 17) (Ok g)))
 
-abbrev pub witness_test : ℕ → ℕ → ℕ → ℕ → Made
+abbrev pub witness_test : ℕ → ℕ → ℕ → ℕ → Result ℕ ℕ
 witness_test positive negative lines g =
-    cond (leb 1024 lines) (made.Refused 22)
-    (cond (eqb g ones) (made.Refused 17)
-    (cond (not (eqb (by_literals 6 (in_word positive) (in_word negative) g) ones)) (made.Refused 18) (made.Word g)))
+    cond (leb 1024 lines) (Err 22)
+    (cond (eqb g ones) (Err 17)
+    (cond (not (eqb (by_literals 6 (in_word positive) (in_word negative) g) ones)) (Err 18) (Ok g)))
 
-abbrev pub root_test : Rule → ℕ → ℕ → ℕ → ℕ → Made
+abbrev pub root_test : Rule → ℕ → ℕ → ℕ → ℕ → Result ℕ ℕ
 root_test Rup = quiet_test
 root_test Pr = witness_test
 root_test Path = quiet_test
 
 -- The tests refuse, or the line of the root's word is judged.
-abbrev pub Tested : WordState → WordStep → (ℕ → Line) → Made → Type 0
-Tested ws step by (made.Refused number) = step ≡ halt number 0
-Tested ws step by (made.Word g) = (step ≡ word_judged ws g (by g)) × (g ≢ ones) × (ws.lines < 1024)
+abbrev pub Tested : WordState → WordStep → (ℕ → Line) → Result ℕ ℕ → Type 0
+Tested ws step by (Err number) = step ≡ halt number 0
+Tested ws step by (Ok g) = (step ≡ word_judged ws g (by g)) × (g ≢ ones) × (ws.lines < 1024)
 
-abbrev pub LineTested : WordState → Rule → ℕ → Made → Type 0
+abbrev pub LineTested : WordState → Rule → ℕ → Result ℕ ℕ → Type 0
 LineTested ws rule root m = Tested ws (word_line ws rule root) (line_of ws rule) m

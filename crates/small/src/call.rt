@@ -1,5 +1,5 @@
 // The call: 7 by the sizes; else the check over words, and every lent place zero.
-ghost use Rattle.std.specs.Prelude.{◌≡◌, true, [], ◌≤◌, length, replicate};
+ghost use Rattle.std.specs.Prelude.{◌≡◌, true, [], ◌≤◌, length};
 ghost use Rattle.dimacs.specs.declared.Header.{Header};
 ghost use Rattle.dimacs.specs.Header.{header};
 ghost use Rattle.dimacs.specs.Clauses.{clauses_from};
@@ -12,24 +12,12 @@ use crate::{SmallChecked, Start, State};
 use dimacs::Header;
 use words::Literals;
 
-fn clear_words(list: &mut [u64])
-    ensures { list.new ≡ replicate (length list.old) 0 }
-{
-    let mut i: usize = 0;
-    while i < list.len() {
-        list[i] = 0;
-        i += 1;
-    }
-}
-
 // Whether member list, its marks and scratch list are of proper size.
+#[tactic(auto, unfolding(small_verdict::specs::Small::small_fits))]
 fn lent_fits(members: &[u64], struck: &[u8], scratch: &[u64]) -> bool
     ensures { result ≡ small_fits members.now struck.now scratch.now }
 {
-    if members.len() < 2048 {
-        return false;
-    }
-    struck.len() == members.len() && 4096 <= scratch.len()
+    2048 <= members.len() && struck.len() == members.len() && 4096 <= scratch.len()
 }
 
 // The header, with more than six variables refused.
@@ -73,7 +61,7 @@ fn run_clauses<'a>(
         × (2048 ≤ length members.old) × (length struck.old ≡ length members.old) × (4096 ≤ length scratch.old) }
     ensures { word_clauses variables proof.now [] (clauses_from formula.now variables wanted from) ≡ said_of result }
 {
-    clearing::clear_bytes(struck);
+    struck.fill(0);
     match crate::formula::read_clauses(members, formula, variables, wanted, from) {
         Start::Refused { number, place } => SmallChecked {
             number,
@@ -149,8 +137,8 @@ pub fn call<'a>(
         };
     }
     let r = run(members, struck, scratch, formula, proof);
-    clear_words(members);
-    clearing::clear_bytes(struck);
-    clear_words(scratch);
+    members.fill(0);
+    struck.fill(0);
+    scratch.fill(0);
     r
 }

@@ -1,6 +1,9 @@
 // The check of a formula of at most six variables by truth table: each function is a 64-bit word, and there are no nodes. (02, 14/14)
 #![tactic(auto)]
 
+ghost use Rattle.std.specs.Prelude.{◌≡◌};
+ghost use Rattle.small.specs.Stops.{stop_at};
+
 use words::Literals;
 
 pub mod call;
@@ -22,18 +25,20 @@ pub struct State {
     pub refuted: bool,
 }
 
-// What a record comes to: the next state; or the number and the place, counted from the record's first byte.
+// How a record ends the proof: the number, 0 where the proof is accepted, and the place, counted from the record's first byte.
 #[derive(Clone, Copy)]
-pub enum Step {
-    Next(State),
-    Stop { number: u8, offset: usize },
+pub struct Stop {
+    pub number: u8,
+    pub offset: usize,
 }
 
-// The word that a record makes, or a number.
-#[derive(Clone, Copy)]
-pub enum Made {
-    Refused(u8),
-    Word(u64),
+// At the record's first byte.
+impl From<u8> for Stop {
+    ghost from_gives = { λ number stop. stop ≡ stop_at number 0 };
+
+    fn from(number: u8) -> Stop {
+        Stop { number, offset: 0 }
+    }
 }
 
 // How the formula ends: so many members, or a number and a place.

@@ -1,68 +1,68 @@
 // Proof lines over words.
-ghost use Rattle.std.specs.Prelude.{◌≡◌, ◌≢◌, ◌||◌, List, ℕ, ◌+◌, ◌*◌, ◌≤◌, ◌<◌, length, take, eqb};
+ghost use Rattle.std.specs.Prelude.{◌≡◌, ◌≢◌, List, ℕ, ◌+◌, ◌*◌, ◌≤◌, ◌<◌, length, take};
 ghost use Rattle.verdict.specs.Steps.{unstruck};
 ghost use Rattle.truth.specs.Tables.{ones};
 ghost use Rattle.truth_rules.specs.Lists.{LineSays};
 ghost use Rattle.small.specs.WordSteps.{line_by, word_line};
 ghost use Rattle.small.specs.Lent.{words_lent, state_of, Held, Stepped, state_with_line, quiet_test, witness_test, root_test, LineTested};
 
-use crate::{Made, State, Step};
+use crate::{State, Stop};
 use records::{EntryNo, Rule};
 use truth::ONES;
 use truth_rules::Judged;
 use words::Literals;
 
 // The tests of the root of a RUP or path line: 16, 22 or 17, or its word.
-fn quiet_test(witness: Literals, lines: usize, g: u64) -> Made
+fn quiet_test(witness: Literals, lines: usize, g: u64) -> Result<u64, u8>
     ensures { result ≡ quiet_test witness.positive witness.negative lines g }
 {
     if crate::record::waits(witness) {
-        return Made::Refused(16);
+        return Err(16);
     }
     if 1024 <= lines {
-        return Made::Refused(22);
+        return Err(22);
     }
     if g == ONES {
-        return Made::Refused(17);
+        return Err(17);
     }
-    Made::Word(g)
+    Ok(g)
 }
 
 // The tests of the root of a PR line: 22, 17 or 18, or its word.
-fn witness_test(witness: Literals, lines: usize, g: u64) -> Made
+fn witness_test(witness: Literals, lines: usize, g: u64) -> Result<u64, u8>
     ensures { result ≡ witness_test witness.positive witness.negative lines g }
 {
     if 1024 <= lines {
-        return Made::Refused(22);
+        return Err(22);
     }
     if g == ONES {
-        return Made::Refused(17);
+        return Err(17);
     }
-    if truth::by_literals(g, witness.positive, witness.negative) != ONES {
-        return Made::Refused(18);
+    if truth::by_literals(g, witness) != ONES {
+        return Err(18);
     }
-    Made::Word(g)
+    Ok(g)
 }
 
 // The tests of a root, in the order of its rule.
-fn root_test(rule: Rule, witness: Literals, lines: usize, g: u64) -> Made
+fn root_test(rule: Rule, witness: Literals, lines: usize, g: u64) -> Result<u64, u8>
     ensures { result ≡ root_test rule witness.positive witness.negative lines g }
 {
     match rule {
-        Rule::Rup => quiet_test(witness, lines, g),
+        Rule::Rup | Rule::Path => quiet_test(witness, lines, g),
         Rule::Pr => witness_test(witness, lines, g),
-        Rule::Path => quiet_test(witness, lines, g),
     }
 }
 
 // 13 where the line has no such root, or what the tests of its rule say.
-fn line_test(scratch: &[u64], st: State, rule: Rule, root: EntryNo) -> Made
+#[tactic(auto, unfolding(crate::specs::WordSteps::word_line, crate::specs::WordSteps::quiet_line, crate::specs::WordSteps::is_word_entry, crate::specs::WordSteps::entry_word, crate::specs::WordSteps::word_waits))]
+fn line_test(scratch: &[u64], st: State, rule: Rule, root: EntryNo) -> Result<u64, u8>
     requires { (st.entries ≤ 4096) × (4096 ≤ length scratch.now) }
     ensures { (ms ss : List ℕ) → LineTested (state_of (words_lent ms ss scratch.now) st) rule root.0 result }
 {
     let entries = st.entries;
     if !crate::entry::is_entry(entries, root) {
-        return Made::Refused(13);
+        return Err(13);
     }
     let g = crate::entry::entry_word(scratch, entries, root);
     root_test(rule, st.witness, st.lines, g)
@@ -73,14 +73,12 @@ fn live_words(members: &[u64], struck: &[u8], m: usize, live: &mut [u64]) -> usi
     requires { (m ≤ length members.now) × (m ≤ length struck.now) × (m ≤ length live.old) }
     ensures { (result ≤ m) × (take result live.new ≡ unstruck (take m struck.now) (take m members.now)) }
 {
-    let mut i: usize = 0;
-    let mut count: usize = 0;
-    while i < m {
+    let mut count = 0;
+    for i in 0..m {
         if struck[i] == 0 {
             live[count] = members[i];
             count += 1;
         }
-        i += 1;
     }
     count
 }
@@ -98,26 +96,9 @@ fn judge(live: &[u64], scratch: &mut [u64], rule: Rule, g: u64, witness: Literal
         Rule::Pr => {
             // Two parts of the scratch list cannot be lent at once.
             let mut second = [0u64; 2048];
-            truth_rules::pr(
-                live,
-                &mut scratch[..m],
-                &mut second[..m],
-                g,
-                witness.positive,
-                witness.negative,
-            )
+            truth_rules::pr(live, &mut scratch[..m], &mut second[..m], g, witness)
         }
     }
-}
-
-// Whether a line is 0 everywhere, or one before it was.
-fn refutes(before: bool, g: u64) -> bool
-    ensures { result ≡ (before || eqb g 0) }
-{
-    if before {
-        return true;
-    }
-    g == 0
 }
 
 // The state after a line that is shown.
@@ -125,7 +106,6 @@ fn with_line(st: State, rounds: u64, g: u64) -> State
     requires { (st.members ≤ 2048) × (st.lines ≤ 1024) × (st.rounds + rounds ≤ 1025 * 12288) }
     ensures { result ≡ state_with_line st rounds g }
 {
-    let refuted = refutes(st.refuted, g);
     State {
         members: st.members + 1,
         entries: 0,
@@ -135,7 +115,7 @@ fn with_line(st: State, rounds: u64, g: u64) -> State
         },
         lines: st.lines + 1,
         rounds: st.rounds + rounds,
-        refuted,
+        refuted: st.refuted || g == 0,
     }
 }
 
@@ -167,27 +147,20 @@ pub fn line_step(
     st: State,
     rule: Rule,
     root: EntryNo,
-) -> Step
+) -> Result<State, Stop>
     requires { Held 6 (words_lent members.old struck.old scratch.old) st }
     ensures { (n : ℕ) → (
         let lent = words_lent members.old struck.old scratch.old in
         let returned = words_lent members.new struck.new scratch.new in
         Held n lent st → Stepped n returned (word_line (state_of lent st) rule root.0) result) }
 {
-    match line_test(scratch, st, rule, root) {
-        Made::Refused(number) => Step::Stop { number, offset: 0 },
-        Made::Word(g) => {
-            let j = judge_live(members, struck, scratch, st, rule, g);
-            if !j.shown {
-                return Step::Stop {
-                    number: 19,
-                    offset: 0,
-                };
-            }
-            let m = st.members;
-            members[m] = g;
-            struck[m] = 0;
-            Step::Next(with_line(st, j.rounds, g))
-        }
+    let g = line_test(scratch, st, rule, root)?;
+    let j = judge_live(members, struck, scratch, st, rule, g);
+    if !j.shown {
+        return Err(Stop::from(19));
     }
+    let m = st.members;
+    members[m] = g;
+    struck[m] = 0;
+    Ok(with_line(st, j.rounds, g))
 }

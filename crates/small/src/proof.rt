@@ -3,7 +3,7 @@ ghost use Rattle.std.specs.Prelude.{◌≡◌, suc, length};
 ghost use Rattle.small.specs.WordSteps.{word_records};
 ghost use Rattle.small.specs.Lent.{words_lent, state_of, Held, said_of};
 
-use crate::{SmallChecked, State, Step};
+use crate::{SmallChecked, State};
 
 // Record after record, up to one that ends the proof. The lists are then anything.
 pub fn read_records(
@@ -25,16 +25,16 @@ pub fn read_records(
         let next = at + records::record_length(record);
         let more = next < proof.len();
         match crate::record::record_step(members, struck, scratch, state, variables, more, record) {
-            Step::Stop { number, offset } => {
+            Err(stop) => {
                 return SmallChecked {
-                    number,
+                    number: stop.number,
                     in_proof: true,
-                    place: at + offset,
+                    place: at + stop.offset,
                     lines: state.lines,
                     rounds: state.rounds,
                 };
             }
-            Step::Next(s) => {
+            Ok(s) => {
                 state = s;
                 at = next;
             }

@@ -11,15 +11,15 @@ use Rattle.small.proofs.call.run_clauses.Goals as goal
 
 pub read_records-requires : goal.read_records-requires
 read_records-requires c = first-held c.args.variables c.in-Begun.made
-    c.read_clauses.new.members c.clear_bytes.new.bytes
+    c.read_clauses.new.members c.fill.new.self
     c.args.scratch.now c.requires.0
     (begins-few c.read_clauses.result c.in-Begun.made
     c.in-Begun.is c.read_clauses.ensures.begins)
     (omega (arith, c.requires.3, c.read_clauses.auto.members))
-    (c.clear_bytes.auto.bytes ∙ c.requires.4 ∙ sym
+    (c.fill.auto.self ∙ c.requires.4 ∙ sym
     c.read_clauses.auto.members) c.requires.5
-    (c.clear_bytes.ensures ∙ ap (λ (k : ℕ). replicate k 0)
-    (sym c.clear_bytes.auto.bytes))
+    (c.fill.ensures.after (λ y e. e) ∙ ap (λ (k : ℕ). replicate k 0)
+    (sym c.fill.auto.self))
 
 pub returns-in-Refused : goal.returns-in-Refused
 returns-in-Refused c = refused-said c.args.variables c.args.proof.now
@@ -39,11 +39,11 @@ returns-in-Begun c = begun-said c.args.variables c.args.proof.now
     (λ (ws : WordState). word_records (suc (length c.args.proof.now)) c.args.variables
     c.args.proof.now ws 0) (sym (first-begun c.args.variables
     c.in-Begun.made c.read_clauses.new.members
-    c.clear_bytes.new.bytes c.args.scratch.now c.requires.0
+    c.fill.new.self c.args.scratch.now c.requires.0
     (begins-few c.read_clauses.result c.in-Begun.made
     c.in-Begun.is c.read_clauses.ensures.begins)
     (omega (arith, c.requires.3, c.read_clauses.auto.members))
-    (c.clear_bytes.auto.bytes ∙ c.requires.4 ∙ sym
+    (c.fill.auto.self ∙ c.requires.4 ∙ sym
     c.read_clauses.auto.members) c.requires.5
-    (c.clear_bytes.ensures ∙ ap (λ (k : ℕ). replicate k 0)
-    (sym c.clear_bytes.auto.bytes)))) ∙ c.read_records.ensures
+    (c.fill.ensures.after (λ y e. e) ∙ ap (λ (k : ℕ). replicate k 0)
+    (sym c.fill.auto.self)))) ∙ c.read_records.ensures

@@ -1,7 +1,6 @@
 -- `read_clauses`: the formula's clauses as words. The idea: what is left of the loop is what is left of the reading. Assumes nothing.
 use mathlib.Core.Path.{refl, sym, ◌∙◌}
 use native.Mathlib.Omega.{arith}
-use Prim.Native.Nat.{◌-◌}
 use lib.ListN.{length-set}
 use Rattle.small.proofs.RunWays.{building-start, building-end, building-refused, building-more, building-next}
 use Rattle.small.proofs.formula.read_clauses.Goals as goal

@@ -1,6 +1,7 @@
 -- `line_step`: refused, or the root is the next member. Assumes nothing.
 use native.Mathlib.Omega.{arith}
 use borrow.Author.Tests.{not-true, not-false}
+use Rattle.std.proofs.lemmas.Result.{err_from_is_err_and}
 use Rattle.small.proofs.LineWays.{line_refused, root-other, few-lines, line-19, line-next}
 use Rattle.small.proofs.line.line_step.Goals as goal
 
@@ -15,16 +16,16 @@ judge_live-j-requires c = (
       c.args.root.0 c.requires
       c.line_test.result
       (c.line_test.ensures c.args.members.now
-      c.args.struck.now) c.in-Word.g c.in-Word.is,
+      c.args.struck.now) c.in_ok-g.g c.in_ok-g.was,
 )
 
 pub returns-then-not-j : goal.returns-then-not-j
-returns-then-not-j c = λ n H. line-19 n c.args.members.now c.args.struck.now
+returns-then-not-j c = λ n H. rw c.from.ensures (line-19 n c.args.members.now c.args.struck.now
     c.args.scratch.now c.args.st c.args.rule
     c.args.root.0 H c.line_test.result
     (c.line_test.ensures c.args.members.now c.args.struck.now)
-    c.in-Word.g c.in-Word.is c.judge_live-j.result
-    c.judge_live-j.ensures.fact (not-true _ c.if-not-j.true) _
+    c.in_ok-g.g c.in_ok-g.was c.judge_live-j.result
+    c.judge_live-j.ensures.fact (not-true _ c.if-not-j.true) _)
 
 pub bounds-members-m : goal.bounds-members-m
 bounds-members-m c = omega (
@@ -33,7 +34,7 @@ bounds-members-m c = omega (
       c.args.scratch.now c.args.st c.args.rule
       c.args.root.0 c.requires c.line_test.result
       (c.line_test.ensures c.args.members.now c.args.struck.now)
-      c.in-Word.g c.in-Word.is,
+      c.in_ok-g.g c.in_ok-g.was,
   c.requires.room,
   c.requires.many,
 )
@@ -45,25 +46,27 @@ bounds-struck-m c = omega (
       c.args.scratch.now c.args.st c.args.rule
       c.args.root.0 c.requires c.line_test.result
       (c.line_test.ensures c.args.members.now c.args.struck.now)
-      c.in-Word.g c.in-Word.is,
+      c.in_ok-g.g c.in_ok-g.was,
   c.requires.room,
   c.requires.many,
   c.requires.marked,
 )
 
-pub returns-in-Refused : goal.returns-in-Refused
-returns-in-Refused c = λ n H. line_refused n c.args.members.now c.args.struck.now
+pub returns-in_err-g : goal.returns-in_err-g
+returns-in_err-g c =
+    let p = err_from_is_err_and c.from_residual.result c.from_residual.ensures.1 in
+    λ n H. rw (p.1, p.2) (line_refused n c.args.members.now c.args.struck.now
     c.args.scratch.now c.args.st c.args.rule
     c.args.root.0 H c.line_test.result
     (c.line_test.ensures c.args.members.now c.args.struck.now) _
-    c.in-Refused.is _
+    c.in_err-g.was _)
 
-pub returns-else-not-j : goal.returns-else-not-j
-returns-else-not-j c = λ n H. line-next n c.args.members.now c.args.struck.now
+pub returns : goal.returns
+returns c = λ n H. line-next n c.args.members.now c.args.struck.now
     c.args.scratch.now c.args.st c.args.rule
     c.args.root.0 H c.line_test.result
     (c.line_test.ensures c.args.members.now c.args.struck.now)
-    c.in-Word.g c.in-Word.is c.judge_live-j.result
+    c.in_ok-g.g c.in_ok-g.was c.judge_live-j.result
     c.judge_live-j.ensures.fact (not-false _ c.if-not-j.false)
     c.judge_live-j.ensures.rounds_bound c.with_line.result c.with_line.ensures
     c.judge_live-j.new.scratch c.judge_live-j.auto.scratch

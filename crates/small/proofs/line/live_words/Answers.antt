@@ -1,7 +1,7 @@
 -- `live_words` gathers the members whose mark is 0, place after place. Assumes nothing.
 use mathlib.Core.Path.{sym, subst}
 use mathlib.Core.List.{List}
-use Prim.Native.Nat.{ℕ, ◌+◌, ◌-◌}
+use Prim.Native.Nat.{ℕ, ◌+◌}
 use Rattle.small.proofs.Gathering.{Gathered, gathered_none, gathered-live, gathered-struck, gathered-all}
 use Rattle.small.proofs.line.live_words.Goals as goal
 use Rattle.small.proofs.line.live_words.Goals.{then-struck-i-eq0, else-struck-i-eq0}

@@ -1,7 +1,7 @@
 -- `read_records`: record after record. The idea: what is left of the loop is what is left of the definition's recursion. Assumes nothing.
 use mathlib.Core.Path.{refl, ap, ◌∙◌}
 use native.Mathlib.Omega.{arith}
-use Prim.Native.Nat.{suc, ◌+◌, ◌-◌}
+use Prim.Native.Nat.{suc, ◌+◌}
 use lib.ListN.{length}
 use lib.Dec.{ltb}
 use Rattle.commands.proofs.Stream.{record-short}
@@ -49,21 +49,21 @@ overflow_add-result c = omega (
       (ltb (c.loop-at.at + c.record_length.result)
       (length c.args.proof.now)) refl (words_lent c.record_step.new.members
       c.record_step.new.struck c.record_step.new.scratch)
-      c.in-Stop.number c.in-Stop.offset c.record_step.result
-      c.in-Stop.is c.record_step.ensures,
+      c.in-Err.stop.number c.in-Err.stop.offset c.record_step.result
+      c.in-Err.is c.record_step.ensures,
 )
 
-pub shape_of-members-in-Stop : goal.shape_of-members-in-Stop
-shape_of-members-in-Stop c = c.record_step.auto.members ∙ c.loop-at.invariant.1
+pub shape_of-members-in-Err : goal.shape_of-members-in-Err
+shape_of-members-in-Err c = c.record_step.auto.members ∙ c.loop-at.invariant.1
 
-pub shape_of-struck-in-Stop : goal.shape_of-struck-in-Stop
-shape_of-struck-in-Stop c = c.record_step.auto.struck ∙ c.loop-at.invariant.2
+pub shape_of-struck-in-Err : goal.shape_of-struck-in-Err
+shape_of-struck-in-Err c = c.record_step.auto.struck ∙ c.loop-at.invariant.2
 
-pub shape_of-scratch-in-Stop : goal.shape_of-scratch-in-Stop
-shape_of-scratch-in-Stop c = c.record_step.auto.scratch ∙ c.loop-at.invariant.3
+pub shape_of-scratch-in-Err : goal.shape_of-scratch-in-Err
+shape_of-scratch-in-Err c = c.record_step.auto.scratch ∙ c.loop-at.invariant.3
 
-pub returns-in-Stop : goal.returns-in-Stop
-returns-in-Stop c = going-stop c.args.variables c.args.proof.now
+pub returns-in-Err : goal.returns-in-Err
+returns-in-Err c = going-stop c.args.variables c.args.proof.now
     (word_records (suc (length c.args.proof.now)) c.args.variables
     c.args.proof.now (state_of (words_lent c.args.members.now
     c.args.struck.now c.args.scratch.now) c.args.first) 0)
@@ -75,8 +75,8 @@ returns-in-Stop c = going-stop c.args.variables c.args.proof.now
     (ltb (c.loop-at.at + c.record_length.result)
     (length c.args.proof.now)) refl (words_lent c.record_step.new.members
     c.record_step.new.struck c.record_step.new.scratch)
-    c.in-Stop.number c.in-Stop.offset c.record_step.result
-    c.in-Stop.is c.record_step.ensures
+    c.in-Err.stop.number c.in-Err.stop.offset c.record_step.result
+    c.in-Err.is c.record_step.ensures
 
 pub loop-at-smaller : goal.loop-at-smaller
 loop-at-smaller c = omega (
@@ -94,7 +94,7 @@ loop-at-smaller c = omega (
       (ltb (c.loop-at.at + c.record_length.result)
       (length c.args.proof.now)) refl (words_lent c.record_step.new.members
       c.record_step.new.struck c.record_step.new.scratch)
-      c.in-Next.s c.record_step.result c.in-Next.is
+      c.in-Ok.s c.record_step.result c.in-Ok.is
       c.record_step.ensures).1,
   (going_next c.args.variables
       c.args.proof.now (word_records (suc (length c.args.proof.now))
@@ -108,7 +108,7 @@ loop-at-smaller c = omega (
       (ltb (c.loop-at.at + c.record_length.result)
       (length c.args.proof.now)) refl (words_lent c.record_step.new.members
       c.record_step.new.struck c.record_step.new.scratch)
-      c.in-Next.s c.record_step.result c.in-Next.is
+      c.in-Ok.s c.record_step.result c.in-Ok.is
       c.record_step.ensures).0.within,
 )
 
@@ -125,7 +125,7 @@ loop-at-preserved c = (
       (ltb (c.loop-at.at + c.record_length.result)
       (length c.args.proof.now)) refl (words_lent c.record_step.new.members
       c.record_step.new.struck c.record_step.new.scratch)
-      c.in-Next.s c.record_step.result c.in-Next.is
+      c.in-Ok.s c.record_step.result c.in-Ok.is
       c.record_step.ensures).0,
   c.record_step.auto.members ∙ c.loop-at.invariant.1,
   c.record_step.auto.struck ∙ c.loop-at.invariant.2,

@@ -1,5 +1,8 @@
 -- `record_step`: each kind of record by its function. Assumes nothing.
 use mathlib.Core.Path.{refl}
+use Rattle.std.proofs.Common.{Ok, Err, ⊎_elim}
+use Rattle.std.proofs.lemmas.Result.{err_from_is_err_and}
+use Rattle.small.proofs.RecordWays.{entered-halt}
 use Rattle.small.specs.Lent.{words_lent, state_of}
 use Rattle.small.proofs.RunWays.{held-6, step-node, step_set, step-witness, step_line, step-strike, step_end, step_cut, step-unknown}
 use Rattle.small.proofs.RunWays.{step-none}
@@ -8,12 +11,22 @@ use Rattle.small.proofs.record.record_step.Goals as goal
 pub line_step-requires : goal.line_step-requires
 line_step-requires c = held-6 _ _ _ c.requires
 
-pub returns-in-NodeEntry : goal.returns-in-NodeEntry
-returns-in-NodeEntry c = step-node c.args.variables _ (state_of
+pub returns-in_err-w-in-NodeEntry : goal.returns-in_err-w-in-NodeEntry
+returns-in_err-w-in-NodeEntry c =
+    let p = err_from_is_err_and c.from_residual.result c.from_residual.ensures.1 in
+    rw (p.1, p.2) (step-node c.args.variables _ (state_of
     (words_lent c.args.members.now c.args.struck.now c.args.scratch.now)
     c.args.st) c.args.more _ c.args.r c.in-NodeEntry.b
-    c.in-NodeEntry.is c.node_word-made.result
-    (c.node_word-made.ensures.by_index c.args.members.now c.args.struck.now)
+    c.in-NodeEntry.is (Err c.in_err-w-in-NodeEntry.field-0.0)
+    (c.in_err-w-in-NodeEntry.ensures.by_index c.args.members.now c.args.struck.now)
+    (entered-halt _ _ _ _ _ c.requires _ _))
+
+pub returns-in_ok-w-in-NodeEntry : goal.returns-in_ok-w-in-NodeEntry
+returns-in_ok-w-in-NodeEntry c = step-node c.args.variables _ (state_of
+    (words_lent c.args.members.now c.args.struck.now c.args.scratch.now)
+    c.args.st) c.args.more _ c.args.r c.in-NodeEntry.b
+    c.in-NodeEntry.is (Ok c.in_ok-w-in-NodeEntry.w)
+    (c.in_ok-w-in-NodeEntry.ensures.by_index c.args.members.now c.args.struck.now)
     (c.entered.ensures c.args.variables c.args.members.now
     c.args.struck.now c.requires)
 
@@ -41,13 +54,25 @@ returns-in-Strike c = step-strike c.args.variables _ (state_of
     (c.strike_step.ensures c.args.variables c.args.members.now
     c.args.scratch.now c.requires)
 
-pub returns-in-SetEntry : goal.returns-in-SetEntry
-returns-in-SetEntry c = step_set c.args.variables _ (state_of
+pub returns-in_err-w-in-SetEntry : goal.returns-in_err-w-in-SetEntry
+returns-in_err-w-in-SetEntry c =
+    let p = err_from_is_err_and c.from_residual-in_err-w-in-SetEntry.result c.from_residual-in_err-w-in-SetEntry.ensures.1 in
+    rw (p.1, p.2) (step_set c.args.variables _ (state_of
+    (words_lent c.args.members.now c.args.struck.now c.args.scratch.now)
+    c.args.st) c.args.more _ c.args.r
+    c.in-SetEntry.kind c.in-SetEntry.b
+    c.in-SetEntry.is (Err c.in_err-w-in-SetEntry.field-0.0)
+    (c.in_err-w-in-SetEntry.ensures.by_index c.args.members.now c.args.struck.now
+    c.args.scratch.now c.requires.places)
+    (entered-halt _ _ _ _ _ c.requires _ _))
+
+pub returns-in_ok-w-in-SetEntry : goal.returns-in_ok-w-in-SetEntry
+returns-in_ok-w-in-SetEntry c = step_set c.args.variables _ (state_of
     (words_lent c.args.members.now c.args.struck.now
     c.args.scratch.now) c.args.st) c.args.more _
     c.args.r c.in-SetEntry.kind c.in-SetEntry.b
-    c.in-SetEntry.is c.set_word-made.result
-    (c.set_word-made.ensures.by_index c.args.members.now c.args.struck.now
+    c.in-SetEntry.is (Ok c.in_ok-w-in-SetEntry.w)
+    (c.in_ok-w-in-SetEntry.ensures.by_index c.args.members.now c.args.struck.now
     c.args.scratch.now c.requires.places)
     (c.entered-in-SetEntry.ensures c.args.variables c.args.members.now
     c.args.struck.now c.requires)
@@ -61,19 +86,16 @@ returns-in-End c = step_end c.args.variables _ (state_of
     c.args.scratch.now))
 
 pub returns-in-CutShort : goal.returns-in-CutShort
-returns-in-CutShort c = step_cut c.args.variables _ (state_of
-    (words_lent c.args.members.now c.args.struck.now
-    c.args.scratch.now) c.args.st) c.args.more _
-    c.args.r c.in-CutShort.is refl
+returns-in-CutShort c = rw c.from.ensures (⊎_elim
+    (λ e. step_cut c.args.variables _ (state_of
+    (words_lent c.args.members.now c.args.struck.now c.args.scratch.now)
+    c.args.st) c.args.more _ c.args.r e refl)
+    (λ e. step-none c.args.variables _ (state_of
+    (words_lent c.args.members.now c.args.struck.now c.args.scratch.now)
+    c.args.st) c.args.more _ c.args.r e refl)
+    c.in-CutShort.is)
 
 pub returns-in-UnknownKind : goal.returns-in-UnknownKind
-returns-in-UnknownKind c = step-unknown c.args.variables _ (state_of
-    (words_lent c.args.members.now c.args.struck.now
-    c.args.scratch.now) c.args.st) c.args.more _
-    c.args.r c.in-UnknownKind.is refl
-
-pub returns-in-NoRecord : goal.returns-in-NoRecord
-returns-in-NoRecord c = step-none c.args.variables _ (state_of
-    (words_lent c.args.members.now c.args.struck.now
-    c.args.scratch.now) c.args.st) c.args.more _
-    c.args.r c.in-NoRecord.is refl
+returns-in-UnknownKind c = rw c.from-in-UnknownKind.ensures (step-unknown c.args.variables _ (state_of
+    (words_lent c.args.members.now c.args.struck.now c.args.scratch.now)
+    c.args.st) c.args.more _ c.args.r c.in-UnknownKind.is refl)
