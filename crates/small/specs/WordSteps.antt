@@ -110,14 +110,14 @@ accepted_word st g rounds = record {
 abbrev pub numbered_words : WordState → List ℕ
 numbered_words st = 0 ∷ ones ∷ st.entries
 
-unfoldable pub is_word_entry : WordState → ℕ → Bool
+abbrev pub is_word_entry : WordState → ℕ → Bool
 is_word_entry st e = ltb e (length (numbered_words st))
 
-unfoldable pub entry_word : WordState → ℕ → ℕ
+abbrev pub entry_word : WordState → ℕ → ℕ
 entry_word st e = get_or (numbered_words st) e 0
 
 unfoldable pub word_node : ℕ → WordState → NodeBody → WordStep
-unfolding is_word_entry entry_word is_variable free_to over
+unfolding is_variable free_to over
 word_node n st b =
     let l = entry_word st b.low.0 in
     let h = entry_word st b.high.0 in
@@ -133,7 +133,7 @@ word_witness n st v b =
     (cond (in_word st.positive v || in_word st.negative v) (halt 15 0)
     (onward (with_literals st (assigned b st.positive v) (assigned (not b) st.negative v))))
 
-unfoldable pub word_waits : WordState → Bool
+abbrev pub word_waits : WordState → Bool
 word_waits st = not (eqb st.positive 0 && eqb st.negative 0)
 
 abbrev pub live_words : WordState → List ℕ
@@ -153,7 +153,6 @@ line_of st rule g = line_by rule st.positive st.negative (live_words st) g
 
 -- RUP and path lines. 34 is never given: a diagram of six variables has at most 64 paths (theorem `few-paths`).
 unfoldable pub quiet_line : WordState → ℕ → Line → WordStep
-unfolding is_word_entry entry_word word_waits
 quiet_line st root line =
     let g = entry_word st root in
     let last = word_judged st g line in
@@ -161,7 +160,7 @@ quiet_line st root line =
     (cond (word_waits st) (halt 16 0) (cond (leb 1024 st.lines) (halt 22 0) (cond (eqb g ones) (halt 17 0) last)))
 
 unfoldable pub word_line : WordState → Rule → ℕ → WordStep
-unfolding is_word_entry entry_word quiet_line unstruck path_line
+unfolding quiet_line unstruck path_line
 word_line st Rup root = quiet_line st root (line_of st Rup (entry_word st root))
 word_line st Pr root =
     let g = entry_word st root in
@@ -170,11 +169,10 @@ word_line st Pr root =
     cond (not (is_word_entry st root)) (halt 13 0) (cond (leb 1024 st.lines) (halt 22 0) (cond (eqb g ones) (halt 17 0) shut))
 word_line st Path root = quiet_line st root (line_of st Path (entry_word st root))
 
-unfoldable pub is_live_word : WordState → ℕ → Bool
+abbrev pub is_live_word : WordState → ℕ → Bool
 is_live_word st k = ltb k (length st.members) && eqb (get_or st.struck k 0) 0
 
 unfoldable pub word_strike : WordState → ℕ → WordStep
-unfolding word_waits is_live_word
 word_strike st k = cond (word_waits st) (halt 16 0)
     (cond (not (is_live_word st k)) (halt 28 0) (onward (with_struck st (set st.struck k 1))))
 
@@ -189,7 +187,6 @@ word_set n st kind b =
     (cond (beyond n b.set) (halt 12 0) (cond (no_parity kind b.byte) (halt 29 0) (onward (with_word st (set_word kind b)))))
 
 unfoldable pub word_end : WordState → Bool → WordStep
-unfolding word_waits
 word_end st more = cond (word_waits st) (halt 16 0) (cond more (halt 11 1) (cond st.refuted (halt 0 0) (halt 20 0)))
 
 unfoldable pub word_step : ℕ → WordState → Bool → Record → WordStep

@@ -55,7 +55,7 @@ fn root_test(rule: Rule, witness: Literals, lines: usize, g: u64) -> Result<u64,
 }
 
 // 13 where the line has no such root, or what the tests of its rule say.
-#[tactic(auto, unfolding(crate::specs::WordSteps::word_line, crate::specs::WordSteps::quiet_line, crate::specs::WordSteps::is_word_entry, crate::specs::WordSteps::entry_word, crate::specs::WordSteps::word_waits))]
+#[tactic(auto, unfolding(crate::specs::WordSteps::word_line, crate::specs::WordSteps::quiet_line))]
 fn line_test(scratch: &[u64], st: State, rule: Rule, root: EntryNo) -> Result<u64, u8>
     requires { (st.entries ≤ 4096) × (4096 ≤ length scratch.now) }
     ensures { (ms ss : List ℕ) → LineTested (state_of (words_lent ms ss scratch.now) st) rule root.0 result }
