@@ -1,8 +1,8 @@
 -- What is said of two files, case by case, and what a 0 said of them means. Assumes nothing.
-use mathlib.Core.Path.{◌≡◌, refl, sym, ◌∙◌}
+use mathlib.Core.Path.{◌≡◌, refl, sym, subst, ◌∙◌}
 use mathlib.Core.Bool.{Bool, true, false}
 use mathlib.Core.List.{List}
-use Prim.Native.Nat.{ℕ}
+use Prim.Native.Nat.{ℕ, ◌≤◌}
 use native.Mathlib.Omega.{arith}
 use lib.ListN.{length}
 use lib.Dec.{ltb, eqb}
@@ -81,6 +81,18 @@ unfolding of_files
 files-refused h f p formula proof rest l e =
     file-refused h f formula _ (of_file some_refused p proof None) l e
     (λ q. file-refused h p proof rest None l q (λ z. cc))
+
+file-counts : (f : Bool) (text : List ℕ) (rest : ℕ) → 24 ≤ rest → 24 ≤ of_file (λ n o. n) f text rest
+file-counts false text rest h = omega arith
+file-counts true text rest h =
+    by (ltb 65536 (length text)) (λ t. rw t (let q : 24 ≤ 24 = omega arith in q)) (λ u. rw u h)
+
+-- A refusal's number is not 0.
+pub refusal-counts : (f p : Bool) (formula proof : List ℕ) (l : Line) → refusal_of f p formula proof ≡ Some l → 24 ≤ l.number
+unfolding of_files
+refusal-counts f p formula proof l e =
+    subst (λ (n : ℕ). 24 ≤ n) (files-refused (λ l. l.number) f p formula proof 25 l e)
+    (file-counts f formula (of_file (λ n o. n) p proof 25) (file-counts p proof 25 (omega arith)))
 
 module _ (mode : Mode) (f p : Bool) (formula proof : List ℕ) where
   pub said-taken : refusal_of f p formula proof ≡ None → said mode f formula p proof ≡ of_verdict (verdict mode 4096 formula proof)
