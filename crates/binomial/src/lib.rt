@@ -3,7 +3,7 @@
 
 mod stored;
 
-ghost use Rattle.std.specs.Prelude.{◌≡◌, ◌≤◌, min};
+ghost use Rattle.std.specs.Prelude.{◌≡◌, ◌≤◌};
 ghost use Rattle.binomial.specs.Binomials.{choose, excluded};
 
 // C(n, k), stored.
@@ -15,28 +15,16 @@ pub fn binomial(n: usize, k: usize) -> u32
     stored::BINOMIALS[i]
 }
 
-// The lesser of k and 33: binomials from 33 on are 0.
-fn at_most_33(k: u8) -> usize
-    ensures { result ≡ min k 33 }
-{
-    if 33 < k {
-        return 33;
-    }
-    k as usize
-}
-
-// How many assignments of n variables make fewer than k of them true.
+// How many assignments of n variables make fewer than k of them true. Binomials from 33 on are 0, so the sum ends at 33.
 pub fn excluded(n: usize, k: u8) -> u64
     requires { n ≤ 32 }
     ensures { result ≡ excluded n k }
 {
-    let end = at_most_33(k);
+    let end = usize::from(k.min(33));
     let mut sum: u64 = 0;
-    let mut j: usize = 0;
-    while j < end {
+    for j in 0..end {
         let c = binomial(n, j);
-        sum += c as u64;
-        j += 1;
+        sum += u64::from(c);
     }
     sum
 }

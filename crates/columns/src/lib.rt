@@ -20,10 +20,7 @@ pub struct Node {
 pub fn places(len: usize) -> usize
     ensures { (result ≤ len) × (result ≤ 65536) × (len ≤ 65536 → len ≤ result) }
 {
-    if len <= MOST {
-        return len;
-    }
-    MOST
+    len.min(MOST)
 }
 
 // The first n nodes into the columns' first places.
@@ -33,13 +30,11 @@ pub fn load(nodes: &[Node], n: usize, vars: &mut [u8], lows: &mut [u16], highs: 
         × (lows.new ≡ lows_of (take n nodes.now) ++ drop n lows.old)
         × (highs.new ≡ highs_of (take n nodes.now) ++ drop n highs.old) }
 {
-    let mut i: usize = 0;
-    while i < n {
+    for i in 0..n {
         let node = nodes[i];
         vars[i] = node.var;
         lows[i] = node.low;
         highs[i] = node.high;
-        i += 1;
     }
 }
 
@@ -49,13 +44,11 @@ pub fn save(nodes: &mut [Node], n: usize, vars: &[u8], lows: &[u16], highs: &[u1
     ensures { nodes.new
         ≡ as_nodes (take n vars.now) (take n lows.now) (take n highs.now) ++ drop n nodes.old }
 {
-    let mut i: usize = 0;
-    while i < n {
+    for i in 0..n {
         nodes[i] = Node {
             var: vars[i],
             low: lows[i],
             high: highs[i],
         };
-        i += 1;
     }
 }

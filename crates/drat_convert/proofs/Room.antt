@@ -22,7 +22,9 @@ use Rattle.convert.specs.Convert.{converted_by, to_binary, to_text, plain_from, 
 use Rattle.convert.proofs.Canonical.{Bytes, binary-own}
 use Rattle.convert.proofs.Plain.{text-own}
 use Rattle.dimacs.proofs.Cases.{by}
-use Rattle.drat_convert.specs.Converting.{conversion_to}
+use Rattle.drat_convert.specs.declared.Direction.{Direction}
+use Rattle.drat_convert.specs.declared.Direction.TheVariants.{ToBinary, ToText}
+use Rattle.drat_convert.specs.Converting.{form_read, conversion_to}
 
 -- ---- a literal
 
@@ -162,7 +164,7 @@ to-binary-fits s h z =
     fits binary_line (lines_of Text s) z (omega (arith, bytes, h, binary-printed (lines_of Text s).lines, plain-short s))
 
 -- THEOREM: what is read to its end is converted, in either direction.
-pub enough-room : (d : Bool) (s : List ℕ) → Bytes s → length s ≤ 65536 → (lines_of (cond d Text Binary) s).number ≡ 0 →
+pub enough-room : (d : Direction) (s : List ℕ) → Bytes s → length s ≤ 65536 → (lines_of (form_read d) s).number ≡ 0 →
     (conversion_to d s).number ≡ 0
-enough-room true s B h z = to-binary-fits s h z
-enough-room false s B h z = to-text-fits s B h z
+enough-room ToBinary s B h z = to-binary-fits s h z
+enough-room ToText s B h z = to-text-fits s B h z

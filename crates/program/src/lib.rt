@@ -3,7 +3,7 @@
 // one write.
 #![tactic(auto)]
 
-ghost use Rattle.std.specs.Prelude.{◌≡◌, false, ◌≤◌, length};
+ghost use Rattle.std.specs.Prelude.{◌≡◌, ◌≤◌, length, take, unwrap_or, IfSome, IfOk};
 ghost use Rattle.report.specs.Line.{line_bytes};
 ghost use Rattle.report.specs.Files.{said};
 
@@ -15,108 +15,75 @@ use std::{fs, io, str};
 // The most bytes of an argument, as of the name of a file.
 pub const LONGEST_WORD: usize = 4096;
 
-// A file: which argument names it, whether it could be read, and how many bytes came, 0 where it could not.
+// A file: which argument names it, and how many bytes came; `None` where it could not be read.
 #[derive(Clone, Copy)]
 pub struct Text {
     pub argument: usize,
-    pub read: bool,
-    pub length: usize,
+    pub length: Option<usize>,
 }
 
-// One read: how many bytes came, or `failed`.
-#[derive(Clone, Copy)]
-struct Part {
-    failed: bool,
-    bytes: usize,
-}
-
-fn read_some(file: &mut impl Read, room: &mut [u8]) -> Part
-    ensures { result.bytes ≤ length room.old }
-{
-    match file.read(room) {
-        Ok(bytes) => Part {
-            failed: false,
-            bytes,
-        },
-        Err(_) => Part {
-            failed: true,
-            bytes: 0,
-        },
+impl Text {
+    // Its bytes, in the buffer that it was read into; none where it could not be read.
+    pub fn bytes(self, buffer: &[u8]) -> &[u8]
+        requires { IfSome self.length (λ n. n ≤ length buffer.now) }
+        ensures { result.now ≡ take (unwrap_or self.length 0) buffer.now }
+    {
+        &buffer[..self.length.unwrap_or(0)]
     }
 }
 
-// Reads to the file's end, or until the buffer is full.
-fn read_all(argument: usize, file: &mut impl Read, buffer: &mut [u8]) -> Text
-    ensures { (result.length ≤ length buffer.old) × (result.argument ≡ argument) }
+// Reads to the file's end, or until the buffer is full: how many bytes came.
+fn read_all(file: &mut impl Read, buffer: &mut [u8]) -> io::Result<usize>
+    ensures { IfOk result (λ n. n ≤ length buffer.old) }
 {
     let mut at: usize = 0;
     while at < buffer.len() {
-        let got = read_some(file, &mut buffer[at..]);
-        if got.failed {
-            return unread(argument);
+        let bytes = file.read(&mut buffer[at..])?;
+        if bytes == 0 {
+            break;
         }
-        if got.bytes == 0 {
-            return Text {
-                argument,
-                read: true,
-                length: at,
-            };
-        }
-        at += got.bytes;
+        at += bytes;
     }
-    Text {
-        argument,
-        read: true,
-        length: at,
-    }
+    Ok(at)
 }
 
-// A file that could not be read.
-fn unread(argument: usize) -> Text
-    ensures { result ≡ record { argument = argument; read = false; length = 0 } }
+// The file of this name; a name that is no text is a file that cannot be read.
+fn read_file(rt: &impl Files, name: &[u8], buffer: &mut [u8]) -> Option<usize>
+    ensures { IfSome result (λ n. n ≤ length buffer.old) }
 {
-    Text {
-        argument,
-        read: false,
-        length: 0,
-    }
+    let path = str::from_utf8(name).ok()?;
+    let mut file = fs::open(rt, path).ok()?;
+    read_all(&mut file, buffer).ok()
+}
+
+// The file that argument `i` names; a name not given is a file that cannot be read.
+fn read_named(rt: &(impl Env + Files), i: usize, buffer: &mut [u8]) -> Option<usize>
+    ensures { IfSome result (λ n. n ≤ length buffer.old) }
+{
+    let mut name = [0u8; LONGEST_WORD];
+    let length = rt.arg(i, &mut name).ok()?;
+    read_file(rt, &name[..length], buffer)
 }
 
 // Argument `i` itself, a word; one that is not given, or is longer than the buffer, is empty.
 pub fn read_word(rt: &impl Env, i: usize, buffer: &mut [u8]) -> Text
-    ensures { (result.length ≤ length buffer.old) × (result.argument ≡ i) }
+    ensures { IfSome result.length (λ n. n ≤ length buffer.old) × (result.argument ≡ i) }
 {
-    match rt.arg(i, buffer) {
-        Ok(length) => Text {
-            argument: i,
-            read: true,
-            length,
-        },
-        Err(_) => unread(i),
+    let length = rt.arg(i, buffer).ok();
+    Text {
+        argument: i,
+        length,
     }
 }
 
-// The file of this name; a name that is no text is a file that cannot be read.
-fn read_file(rt: &impl Files, i: usize, name: &[u8], buffer: &mut [u8]) -> Text
-    ensures { (result.length ≤ length buffer.old) × (result.argument ≡ i) }
-{
-    let Ok(path) = str::from_utf8(name) else {
-        return unread(i);
-    };
-    match fs::open(rt, path) {
-        Ok(mut file) => read_all(i, &mut file, buffer),
-        Err(_) => unread(i),
-    }
-}
-
-// The file that argument `i` names; a name not given is a file that cannot be read.
+// The file that argument `i` names, as far as the buffer has room for it.
 pub fn read_argument(rt: &(impl Env + Files), i: usize, buffer: &mut [u8]) -> Text
-    ensures { (result.length ≤ length buffer.old) × (result.argument ≡ i) }
+    ensures { IfSome result.length (λ n. n ≤ length buffer.old) × (result.argument ≡ i) }
 {
-    let mut name = [0u8; LONGEST_WORD];
-    match rt.arg(i, &mut name) {
-        Ok(length) => read_file(rt, i, &name[..length], buffer),
-        Err(_) => unread(i),
+    let length = read_named(rt, i, buffer);
+    Text {
+        argument: i,
+        length,
     }
 }
 
@@ -146,8 +113,8 @@ fn answer<'a>(
 ) -> io::Result<()>
     requires { (f.argument ≡ 1) × (p.argument ≡ 2) }
 {
-    let first = f.read;
-    let second = p.read;
+    let first = f.length.is_some();
+    let second = p.length.is_some();
     let mut line = [0u8; 105];
     let told = report::report(mode, first, formula, second, proof, &mut line);
     let length = told.length;
@@ -164,14 +131,5 @@ pub fn run(
 ) -> io::Result<()> {
     let f = read_argument(rt, 1, formula);
     let p = read_argument(rt, 2, proof);
-    let formula_length = f.length;
-    let proof_length = p.length;
-    answer(
-        rt,
-        mode,
-        f,
-        &formula[..formula_length],
-        p,
-        &proof[..proof_length],
-    )
+    answer(rt, mode, f, f.bytes(formula), p, p.bytes(proof))
 }

@@ -11,51 +11,29 @@ use program::Text;
 use std::io;
 use std::rt::{Env, Files};
 
-// What a word names.
-#[derive(Clone, Copy)]
-enum Named {
-    Known(Mode),
-    Unknown,
-}
-
-fn form_of(byte: u8, consequence: bool) -> Named
+// The mode of a letter for the form and of a profile.
+fn form_of(byte: u8, consequence: bool) -> Option<Mode>
     ensures { result ≡ form_named byte consequence }
 {
-    if byte == b'r' {
-        return Named::Known(Mode {
-            form: Form::Records,
-            consequence,
-        });
-    }
-    if byte == b't' {
-        return Named::Known(Mode {
-            form: Form::Text,
-            consequence,
-        });
-    }
-    if byte == b'b' {
-        return Named::Known(Mode {
-            form: Form::Binary,
-            consequence,
-        });
-    }
-    Named::Unknown
+    let form = match byte {
+        b'r' => Form::Records,
+        b't' => Form::Text,
+        b'b' => Form::Binary,
+        _ => return None,
+    };
+    Some(Mode { form, consequence })
 }
 
+// What the word names.
 #[tactic(auto, unfolding(crate::specs::Words::mode_named))]
-fn mode_of(word: &[u8]) -> Named
+fn mode_of(word: &[u8]) -> Option<Mode>
     ensures { result ≡ mode_named word.now }
 {
-    if word.len() == 1 {
-        return form_of(word[0], false);
+    match word {
+        [form] => form_of(*form, false),
+        [form, b'c'] => form_of(*form, true),
+        _ => None,
     }
-    if word.len() == 2 {
-        if word[1] == b'c' {
-            return form_of(word[0], true);
-        }
-        return Named::Unknown;
-    }
-    Named::Unknown
 }
 
 // The check in the mode that the third argument names.
@@ -69,8 +47,8 @@ fn start(
     requires { given.argument ≡ 3 }
 {
     match mode_of(word) {
-        Named::Known(mode) => program::run(rt, mode, formula, proof),
-        Named::Unknown => rt.eprintln("refute_in FORMULA PROOF r|rc|t|tc|b|bc"),
+        Some(mode) => program::run(rt, mode, formula, proof),
+        None => rt.eprintln("refute_in FORMULA PROOF r|rc|t|tc|b|bc"),
     }
 }
 
@@ -79,6 +57,5 @@ fn main(rt: HostRuntime) -> io::Result<()> {
     let mut proof = [0u8; 65537];
     let mut word = [0u8; program::LONGEST_WORD];
     let given = program::read_word(&rt, 3, &mut word);
-    let length = given.length;
-    start(&rt, given, &word[..length], &mut formula, &mut proof)
+    start(&rt, given, given.bytes(&word), &mut formula, &mut proof)
 }

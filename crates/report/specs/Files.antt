@@ -1,5 +1,5 @@
 -- What the program says of two files, and with which status it ends. (01, The program and its line)
-use Rattle.std.specs.Prelude.{Bool, cond, not, List, ℕ, length, eqb, ltb}
+use Rattle.std.specs.Prelude.{Bool, cond, not, List, Option, Some, ℕ, length, eqb, ltb}
 use Rattle.commands.specs.declared.Mode.{Mode}
 use Rattle.verdict.specs.Check.{Verdict, verdict}
 use Rattle.report.specs.declared.Line.{Line}
@@ -7,6 +7,10 @@ use Rattle.report.specs.declared.Line.{Line}
 -- "For 24 the place is 65,536, for 25 it is 0, and lines and rounds are 0." The peak "with 7, 24 and 25 [..] is 0". (02, 2/14)
 abbrev pub file_refused : ℕ → ℕ → Line
 file_refused number place = record { number = number; place = place; lines = 0; rounds = 0; peak = 0 }
+
+-- The refusal of a file as one that may be left out.
+abbrev pub some_refused : ℕ → ℕ → Option Line
+some_refused number place = Some (file_refused number place)
 
 abbrev pub of_verdict : Verdict → Line
 of_verdict v = record { number = v.number; place = v.place; lines = v.lines; rounds = v.rounds; peak = v.peak }

@@ -4,10 +4,10 @@
 
 mod put;
 
-ghost use Rattle.std.specs.Prelude.{◌≡◌, ◌≤◌, length, take, drop};
+ghost use Rattle.std.specs.Prelude.{◌≡◌, ◌≤◌, length, take, drop, None};
 ghost use Rattle.verdict.specs.Check.{verdict};
 ghost use Rattle.verdict.specs.Satisfies.{Unsatisfiable};
-ghost use Rattle.report.specs.Files.{file_refused, of_verdict, of_files, said, status_of};
+ghost use Rattle.report.specs.Files.{file_refused, some_refused, of_verdict, of_file, of_files, said, status_of};
 ghost use Rattle.report.specs.Line.{line_bytes};
 
 use commands::Mode;
@@ -82,51 +82,47 @@ fn refused(number: u8, place: usize) -> Line
     }
 }
 
-// The refusal of the two files: 25 and 24 of the formula, then of the proof; number 0 where both are taken. `first` and `second` tell
-// whether the formula and the proof could be read.
-pub fn files<'a>(first: bool, formula: &'a [u8], second: bool, proof: &'a [u8]) -> Line
-    ensures { result ≡ of_files file_refused first formula.now second proof.now (file_refused 0 0) }
+// The refusal of a file: 25 where it could not be read, 24 where it is too long.
+fn file(read: bool, text: &[u8]) -> Option<Line>
+    ensures { result ≡ of_file some_refused read text.now None }
 {
-    if !first {
-        return refused(25, 0);
+    if !read {
+        return Some(refused(25, 0));
     }
-    if formula.len() > LONGEST {
-        return refused(24, LONGEST);
+    if text.len() > LONGEST {
+        return Some(refused(24, LONGEST));
     }
-    if !second {
-        return refused(25, 0);
-    }
-    if proof.len() > LONGEST {
-        return refused(24, LONGEST);
-    }
-    refused(0, 0)
+    None
+}
+
+// The refusal of the two files, the formula's first; `None` where both are taken. `first` and `second` tell whether the formula and the
+// proof could be read.
+// A flag and the bytes, not `Option<&[u8]>`: so `cablesalak_report` takes them, and `said` speaks of both.
+pub fn files(first: bool, formula: &[u8], second: bool, proof: &[u8]) -> Option<Line>
+    ensures { result ≡ of_files some_refused first formula.now second proof.now None }
+{
+    file(first, formula).or(file(second, proof))
 }
 
 // The line on two files: their refusal, else the check's.
 fn line_on<'a>(mode: Mode, first: bool, formula: &'a [u8], second: bool, proof: &'a [u8]) -> Line
     ensures { result ≡ said mode first formula.now second proof.now }
 {
-    let untaken = files(first, formula, second, proof);
-    if untaken.number != 0 {
-        return untaken;
+    match files(first, formula, second, proof) {
+        Some(refusal) => refusal,
+        None => check(mode, formula, proof),
     }
-    check(mode, formula, proof)
 }
 
 // 0 for refuted alone, 2 where a file was not taken, 1 for every other refusal.
 pub fn status_of(number: u8) -> u8
     ensures { result ≡ status_of number }
 {
-    if number == 0 {
-        return 0;
+    match number {
+        0 => 0,
+        24 | 25 => 2,
+        _ => 1,
     }
-    if number < 24 {
-        return 1;
-    }
-    if number < 26 {
-        return 2;
-    }
-    1
 }
 
 // The line on two files, put at the start of `line`, and the status.

@@ -12,16 +12,16 @@ fn put_byte(b: u8, line: &mut [u8], at: usize) -> usize
     at + 1
 }
 
-// A number's decimal digits.
+// A number's decimal digits. Not `write!`: into a slice it may fail, and no clause of std says which bytes it leaves there.
 fn put_number(n: u64, line: &mut [u8], at: usize) -> usize
     requires { at + length (decimal n) ≤ length line.old }
     ensures { Put line.old at (decimal n) line.new result }
 {
     if n < 10 {
-        return put_byte(48 + n as u8, line, at);
+        return put_byte(b'0' + n as u8, line, at);
     }
     let next = put_number(n / 10, line, at);
-    put_byte(48 + (n % 10) as u8, line, next)
+    put_byte(b'0' + (n % 10) as u8, line, next)
 }
 
 // A number's decimal digits and the byte that separates it from what follows.
@@ -40,16 +40,7 @@ pub fn put_line(told: Line, line: &mut [u8; 105]) -> usize
     ensures line_unchanged { drop result line.new ≡ drop result line.old }
     ensures prefix_len { (result ≤ length line.new) × (result ≡ length (take result line.new)) }
 {
-    put_fields(told, line)
-}
-
-fn put_fields(told: Line, line: &mut [u8]) -> usize
-    requires { 105 ≤ length line.old }
-    ensures line_after { take result line.new ≡ line_bytes told }
-    ensures line_unchanged { drop result line.new ≡ drop result line.old }
-    ensures prefix_len { (result ≤ length line.new) × (result ≡ length (take result line.new)) }
-{
-    let after_number = put_field(told.number as u64, b' ', line, 0);
+    let after_number = put_field(u64::from(told.number), b' ', line, 0);
     let after_place = put_field(told.place as u64, b' ', line, after_number);
     let after_lines = put_field(told.lines as u64, b' ', line, after_place);
     let after_rounds = put_field(told.rounds, b' ', line, after_lines);

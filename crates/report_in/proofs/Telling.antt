@@ -1,11 +1,11 @@
 -- What the report over a lent table says, by whether both files are taken; and what its status 0 means. The idea: `files-taken` and
 -- `files-refused` of crate `report`. Assumes nothing.
-use mathlib.Core.Path.{◌≡◌, sym, ap, ◌∙◌}
+use mathlib.Core.Path.{◌≡◌, refl, sym, ap, ◌∙◌}
 use mathlib.Core.Bool.{Bool}
 use mathlib.Core.List.{List}
 use Prim.Native.Nat.{ℕ}
-use lib.Dec.{eqb}
-use borrow.Author.Tests.{eqb-true, eqb-false}
+use native.Mathlib.Omega.{arith}
+use Rattle.std.specs.Prelude.{Option, Some, None}
 use Rattle.table.specs.Columns.{Columns}
 use Rattle.commands.specs.declared.Mode.{Mode}
 use Rattle.verdict.specs.Check.{CheckOutcome, check}
@@ -13,8 +13,7 @@ use Rattle.verdict.specs.Satisfies.{Unsatisfiable}
 use Rattle.verdict.proofs.Refuted.{check-refuted}
 use Rattle.report.specs.declared.Line.{Line}
 use Rattle.report.specs.Files.{file_refused, status_of}
-use Rattle.dimacs.proofs.Cases.{by}
-use Rattle.report.proofs.Saying.{refusal_of, files-taken, files-refused, status-zero}
+use Rattle.report.proofs.Saying.{refusal_of, files-taken, files-refused, refusal-counts, status-zero}
 use Rattle.report_in.specs.Lent.{ReportOutcome, report_outcome, of_check, report_on}
 
 -- What is left, with the line of the definition in place of the one that was returned.
@@ -29,29 +28,32 @@ module _ (mode : Mode) (lent : Columns) (ms ks ss : List ℕ) (f p : Bool) (form
   abbrev checked : CheckOutcome
   checked = check mode lent 2 ms ks ss formula proof
 
-  on-untaken : ((refusal_of f p formula proof).number ≡ 0 → ⊥) → told ≡ report_outcome lent ms ks ss (refusal_of f p formula proof)
+  on-untaken : (l : Line) → refusal_of f p formula proof ≡ Some l → told ≡ report_outcome lent ms ks ss l
   unfolding report_on
-  on-untaken d = files-refused (λ l. report_outcome lent ms ks ss l) f p formula proof (of_check checked) d
+  on-untaken l e = files-refused (λ l. report_outcome lent ms ks ss l) f p formula proof (of_check checked) l e
 
-  on-taken : (refusal_of f p formula proof).number ≡ 0 → told ≡ of_check checked
+  on-taken : refusal_of f p formula proof ≡ None → told ≡ of_check checked
   unfolding report_on
   on-taken e = files-taken (λ number place. report_outcome lent ms ks ss (file_refused number place)) f p formula proof (of_check checked) e
 
   -- A file was not taken.
-  pub untaken : (l : Line) → l ≡ refusal_of f p formula proof → (l.number ≡ 0 → ⊥) → report_outcome lent ms ks ss l ≡ told
-  untaken l e d =
-      ap (λ (x : Line). report_outcome lent ms ks ss x) e ∙ sym (on-untaken (λ z. d (ap (λ (x : Line). x.number) e ∙ z)))
+  pub untaken : (l : Line) → refusal_of f p formula proof ≡ Some l → report_outcome lent ms ks ss l ≡ told
+  untaken l e = sym (on-untaken l e)
 
   -- Both were, and the check was made.
-  pub taken : (l : Line) → l ≡ refusal_of f p formula proof → l.number ≡ 0 → (o : CheckOutcome) → o ≡ checked → of_check o ≡ told
-  taken l e z o is = ap of_check is ∙ sym (on-taken (ap (λ (x : Line). x.number) (sym e) ∙ z))
+  pub taken : refusal_of f p formula proof ≡ None → (o : CheckOutcome) → o ≡ checked → of_check o ≡ told
+  taken e o is = ap of_check is ∙ sym (on-taken e)
 
   -- Status 0: no assignment satisfies the formula.
   pub told-refuted : status_of told.line.number ≡ 0 → Unsatisfiable formula
-  told-refuted z =
-      let number : told.line.number ≡ 0 = status-zero _ z in
-      by (eqb (refusal_of f p formula proof).number 0)
-      (λ t.
-      check-refuted mode lent 2 ms ks ss formula proof
-      (sym (ap (λ (o : ReportOutcome). o.line.number) (on-taken (eqb-true _ _ t))) ∙ number))
-      (λ u. absurd (eqb-false _ _ u (sym (ap (λ (o : ReportOutcome). o.line.number) (on-untaken (eqb-false _ _ u))) ∙ number)))
+  told-refuted z = go (refusal_of f p formula proof) refl
+    where
+      number : told.line.number ≡ 0
+      number = status-zero _ z
+
+      go : (r : Option Line) → refusal_of f p formula proof ≡ r → Unsatisfiable formula
+      go None e =
+          check-refuted mode lent 2 ms ks ss formula proof (sym (ap (λ (o : ReportOutcome). o.line.number) (on-taken e)) ∙ number)
+      go (Some l) e =
+          let same = ap (λ (o : ReportOutcome). o.line.number) (on-untaken l e) in
+          absurd (omega (arith, same, number, refusal-counts f p formula proof l e))

@@ -36,31 +36,32 @@ fn line_in<'a>(
         ≡ report_on (in_form (form_of form) consequence) lent members.old struck.old scratch.old
         first formula.now second proof.now }
 {
-    let untaken = report::files(first, formula, second, proof);
-    if untaken.number != 0 {
-        return untaken;
-    }
-    let r = checker::check_form(
-        vars,
-        lows,
-        highs,
-        heads,
-        links,
-        2,
-        members,
-        struck,
-        scratch,
-        formula,
-        proof,
-        form,
-        consequence,
-    );
-    Line {
-        number: r.number,
-        place: r.place,
-        lines: r.lines,
-        rounds: r.rounds,
-        peak: r.peak,
+    match report::files(first, formula, second, proof) {
+        Some(refusal) => refusal,
+        None => {
+            let r = checker::check_form(
+                vars,
+                lows,
+                highs,
+                heads,
+                links,
+                2,
+                members,
+                struck,
+                scratch,
+                formula,
+                proof,
+                form,
+                consequence,
+            );
+            Line {
+                number: r.number,
+                place: r.place,
+                lines: r.lines,
+                rounds: r.rounds,
+                peak: r.peak,
+            }
+        }
     }
 }
 

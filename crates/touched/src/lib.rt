@@ -11,14 +11,12 @@ pub fn touched_places(words: &[u64], touching: u64, places: &mut [u16]) -> usize
     ensures { (result ≤ length words.now)
         × AllBut (length words.now) (take result places.new) (Untouched words.now touching) }
 {
-    let mut i: usize = 0;
     let mut count: usize = 0;
-    while i < words.len() {
-        if words[i] & touching != 0 {
+    for (i, word) in words.iter().enumerate() {
+        if *word & touching != 0 {
             places[count] = i as u16;
             count += 1;
         }
-        i += 1;
     }
     count
 }
@@ -29,10 +27,7 @@ pub fn nodes_at(list: &[u16], places: &[u16], nodes: &mut [u16])
     ensures { take (length places.now) nodes.new
         ≡ map (λ i. get_or list.now i 0) places.now }
 {
-    let mut k: usize = 0;
-    while k < places.len() {
-        let i = places[k] as usize;
-        nodes[k] = list[i];
-        k += 1;
+    for (k, place) in places.iter().enumerate() {
+        nodes[k] = list[usize::from(*place)];
     }
 }

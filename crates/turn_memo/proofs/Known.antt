@@ -1,22 +1,12 @@
 -- What is known of every turn stored, and of the members passed by it. The idea: a claim about nodes and rounds that holds of what is
 -- stored holds of what is stored next, and carries a count over the members that are passed. Assumes nothing.
 use mathlib.Core.Path.{◌≡◌, refl, sym, ◌∙◌, subst}
-use mathlib.Core.Logic.{◌⊎◌, inl, inr, ⊎_elim}
+use mathlib.Core.Logic.{⊎_elim}
 use mathlib.Core.List.{List}
-use Prim.Native.Nat.{ℕ, zero, suc, ◌+◌, ◌-◌, ◌*◌, ◌/◌, ◌%◌, ◌≤◌, ◌<◌}
+use Prim.Native.Nat.{ℕ, zero, suc, ◌+◌, ◌≤◌, ◌<◌}
 use native.Mathlib.Omega.{arith}
-use native.Mathlib.Decide.{ℕ_discrete}
-use lib.ListN.{length, get_or, set, replicate}
-use lib.Seq.{get_or-set_same, get_or-set_other}
-use Rattle.turn_memo.specs.Turns.{Holds, Tells, Stores, Passes, here, next}
-
--- ---- a cell that is looked at
-
-pub tells-cell : (turns : List ℕ) (c f : ℕ) → get_or turns c 0 / 128 ≡ f → Tells turns f (get_or turns c 0 % 128)
-tells-cell turns c f e m r = record { cell = c; has = omega (arith, e, r); few = omega (arith, r) }
-
-pub tells_none : (turns : List ℕ) (f : ℕ) → Tells turns f 0
-tells_none turns f m r = absurd (omega (arith, r))
+use lib.ListN.{length, get_or, replicate}
+use Rattle.turn_memo.specs.Turns.{Holds, Stores, Passes, here, next}
 
 -- ---- what is known of all that is stored
 
@@ -32,14 +22,6 @@ zero-get_or (suc n) (suc c) = zero-get_or n c
 -- nothing is stored
 pub known-none : (n : ℕ) (P : ℕ → ℕ → Type 0) → Known (replicate n 0) P
 known-none n P f m h = let z = zero-get_or n h.cell in absurd (omega (arith, z, h.has))
-
--- one turn more is stored
-pub set-stores : (turns : List ℕ) (c v f m : ℕ) → c < length turns → v ≡ f * 128 + suc m → Stores turns f m (set turns c v)
-set-stores turns c v f m p e d = go (ℕ_discrete d c)
-  where
-    go : Dec (d ≡ c) → (get_or (set turns c v) d 0 ≡ f * 128 + suc m) ⊎ (get_or (set turns c v) d 0 ≡ get_or turns d 0)
-    go (yes q) = inl (rw q (get_or-set_same turns c v 0 p ∙ e))
-    go (no n) = inr (get_or-set_other turns c d v 0 n)
 
 pub known-stored : (turns after : List ℕ) (P Q : ℕ → ℕ → Type 0) (f m : ℕ) → Known turns P → ((g k : ℕ) → P g k → Q g k) → Q f m → m ≤ 64
     → Stores turns f m after → Known after Q
@@ -57,12 +39,6 @@ module _ (members turns : List ℕ) (from rounds : ℕ) where
   pub passes-least : (i sum : ℕ) → Passes members turns from rounds i sum → from ≤ i
   passes-least i sum here = omega arith
   passes-least i sum (next j s m p lt h) = omega (arith, passes-least j s p)
-
-  -- a member more is passed
-  pub passes-told : (i sum r : ℕ) → Passes members turns from rounds i sum → i < length members → (r ≡ 0 → ⊥) →
-      Tells turns (get_or members i 0) r
-      → Passes members turns from rounds (i + 1) (sum + (r - 1))
-  passes-told i sum r p lt some told = next i sum (r - 1) p lt (told (r - 1) (omega (arith, some)))
 
   -- what each stored turn carries on is carried over all that are passed
   pub passes-carry : (P : ℕ → ℕ → Type 0) → ((i sum m : ℕ) → i < length members → Holds turns (get_or members i 0) m → P i sum →

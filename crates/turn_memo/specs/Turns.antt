@@ -7,10 +7,6 @@ pub record Holds (turns : List ℕ) (f m : ℕ) : Type 0 where
   pub has : get_or turns cell 0 ≡ f * 128 + suc m
   pub few : m < 127
 
--- r is the rounds of the turn of f and 1, or 0.
-abbrev pub Tells : List ℕ → ℕ → ℕ → Type 0
-Tells turns f r = (m : ℕ) → r ≡ suc m → Holds turns f m
-
 -- The turn of f with m rounds is stored: what a cell holds then is this, or what it held.
 abbrev pub Stores : List ℕ → ℕ → ℕ → List ℕ → Type 0
 Stores turns f m after = (c : ℕ) → (get_or after c 0 ≡ f * 128 + suc m) ⊎ (get_or after c 0 ≡ get_or turns c 0)

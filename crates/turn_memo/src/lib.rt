@@ -2,8 +2,8 @@
 // stands, so nothing is said of where a node is looked for.
 #![tactic(auto)]
 
-ghost use Rattle.std.specs.Prelude.{◌≡◌, ◌*◌, ◌≤◌, ◌<◌, length};
-ghost use Rattle.turn_memo.specs.Turns.{Tells, Stores, Passes};
+ghost use Rattle.std.specs.Prelude.{◌≡◌, ◌*◌, ◌≤◌, ◌<◌, length, IfSome};
+ghost use Rattle.turn_memo.specs.Turns.{Holds, Stores, Passes};
 
 use table::NodeNo;
 
@@ -18,31 +18,31 @@ fn cell_of(turns: &[u32], f: NodeNo) -> usize
     requires { length turns.now ≡ 4096 }
     ensures { result < 4096 }
 {
-    let node = f.0 as u32;
-    let mut c = (f.0 as usize) % CELLS;
-    let mut left: usize = CELLS;
-    while 0 < left {
+    let node = u32::from(f.0);
+    let mut c = usize::from(f.0) % CELLS;
+    for _ in 0..CELLS {
         let e = turns[c];
         if e == 0 || e / DIGITS == node {
             return c;
         }
         c = (c + 1) % CELLS;
-        left -= 1;
     }
     c
 }
 
-// The rounds of the turn of node f and 1; 0 where none is stored.
-fn look_up(turns: &[u32], f: NodeNo) -> u32
+// The rounds of the turn of node f, where one is stored.
+fn look_up(turns: &[u32], f: NodeNo) -> Option<u64>
     requires { length turns.now ≡ 4096 }
-    ensures { Tells turns.now f.0 result }
+    ensures { IfSome result (Holds turns.now f.0) }
 {
-    let c = cell_of(turns, f);
-    let e = turns[c];
-    if e / DIGITS == f.0 as u32 {
-        return e % DIGITS;
+    let e = turns[cell_of(turns, f)];
+    if e / DIGITS != u32::from(f.0) {
+        return None;
     }
-    0
+    match e % DIGITS {
+        0 => None,
+        digits => Some(u64::from(digits - 1)),
+    }
 }
 
 // Stores the turn of node f, of so many rounds.
@@ -51,7 +51,7 @@ pub fn store(turns: &mut [u32], f: NodeNo, rounds: u64)
     ensures { Stores turns.old f.0 rounds turns.new }
 {
     let c = cell_of(turns, f);
-    turns[c] = (f.0 as u32) * DIGITS + (rounds as u32) + 1;
+    turns[c] = u32::from(f.0) * DIGITS + (rounds as u32) + 1;
 }
 
 #[derive(Clone, Copy)]
@@ -65,21 +65,20 @@ pub fn pass_stored(members: &[u16], turns: &[u32], from: usize, rounds: u64) -> 
     requires { (length turns.now ≡ 4096) × (length members.now ≤ 2048) × (rounds ≤ 64 * from) }
     ensures { Passes members.now turns.now from rounds result.place result.rounds }
 {
-    let mut i = from;
     let mut sum = rounds;
-    while i < members.len() {
-        let m = look_up(turns, NodeNo(members[i]));
-        if m == 0 {
-            return Passed {
-                place: i,
-                rounds: sum,
-            };
+    for i in from..members.len() {
+        match look_up(turns, NodeNo(members[i])) {
+            Some(more) => sum += more,
+            None => {
+                return Passed {
+                    place: i,
+                    rounds: sum,
+                };
+            }
         }
-        sum += (m - 1) as u64;
-        i += 1;
     }
     Passed {
-        place: i,
+        place: from.max(members.len()),
         rounds: sum,
     }
 }

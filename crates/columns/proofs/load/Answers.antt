@@ -20,23 +20,22 @@ column-ends : (f : Node → ℕ) (ys : List Node) (xs now : List ℕ) (i n : ℕ
 column-ends f ys xs now i n e q = e ∙ ap (column f ys xs) q
 
 pub loop-i-init : goal.loop-i-init
-loop-i-init c = (omega arith, refl, refl, refl)
+loop-i-init c = (refl, refl, refl)
 
 pub loop-i-preserved : goal.loop-i-preserved
 loop-i-preserved c = (
-  omega (arith, c.loop-i-test.true),
-  column-next var_of c.args.nodes.now c.args.vars.now _ _ c.loop-i.invariant.1 (omega (arith, c.requires.0, c.loop-i-test.true))
+  column-next var_of c.args.nodes.now c.args.vars.now _ _ c.loop-i.invariant.0 (omega (arith, c.requires.0, c.loop-i-test.true))
       (omega (arith, c.requires.1, c.loop-i-test.true)),
-  column-next low_of c.args.nodes.now c.args.lows.now _ _ c.loop-i.invariant.2 (omega (arith, c.requires.0, c.loop-i-test.true))
+  column-next low_of c.args.nodes.now c.args.lows.now _ _ c.loop-i.invariant.1 (omega (arith, c.requires.0, c.loop-i-test.true))
       (omega (arith, c.requires.2, c.loop-i-test.true)),
-  column-next high_of c.args.nodes.now c.args.highs.now _ _ c.loop-i.invariant.3 (omega (arith, c.requires.0, c.loop-i-test.true))
+  column-next high_of c.args.nodes.now c.args.highs.now _ _ c.loop-i.invariant.2 (omega (arith, c.requires.0, c.loop-i-test.true))
       (omega (arith, c.requires.3, c.loop-i-test.true)),
 )
 
 pub returns : goal.returns
 unfolding vars_of lows_of highs_of
-returns c = let n : c.loop-i.i ≡ c.args.n = omega (arith, c.loop-i.invariant.0, c.loop-i-test.false) in (
-  column-ends var_of c.args.nodes.now c.args.vars.now _ _ _ c.loop-i.invariant.1 n,
-  column-ends low_of c.args.nodes.now c.args.lows.now _ _ _ c.loop-i.invariant.2 n,
-  column-ends high_of c.args.nodes.now c.args.highs.now _ _ _ c.loop-i.invariant.3 n,
+returns c = let n : c.loop-i.i ≡ c.args.n = omega (arith, c.loop-i-test.false) in (
+  column-ends var_of c.args.nodes.now c.args.vars.now _ _ _ c.loop-i.invariant.0 n,
+  column-ends low_of c.args.nodes.now c.args.lows.now _ _ _ c.loop-i.invariant.1 n,
+  column-ends high_of c.args.nodes.now c.args.highs.now _ _ _ c.loop-i.invariant.2 n,
 )

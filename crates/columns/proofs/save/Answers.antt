@@ -17,16 +17,14 @@ slice-next vs ls hs ys now i e a b c d = ap (λ (r : List Node). set r i (node_a
 
 pub loop-i-init : goal.loop-i-init
 unfolding as_nodes
-loop-i-init c = (omega arith, refl)
+loop-i-init c = refl
 
 pub loop-i-preserved : goal.loop-i-preserved
-loop-i-preserved c = (
-  omega (arith, c.loop-i-test.true),
-  slice-next c.args.vars.now c.args.lows.now c.args.highs.now c.args.nodes.now _ _ c.loop-i.invariant.1
-      (omega (arith, c.requires.1, c.loop-i-test.true)) (omega (arith, c.requires.2, c.loop-i-test.true))
-      (omega (arith, c.requires.3, c.loop-i-test.true)) (omega (arith, c.requires.0, c.loop-i-test.true)),
-)
+loop-i-preserved c =
+    slice-next c.args.vars.now c.args.lows.now c.args.highs.now c.args.nodes.now _ _ c.loop-i.invariant
+    (omega (arith, c.requires.1, c.loop-i-test.true)) (omega (arith, c.requires.2, c.loop-i-test.true))
+    (omega (arith, c.requires.3, c.loop-i-test.true)) (omega (arith, c.requires.0, c.loop-i-test.true))
 
 pub returns : goal.returns
-returns c = let n : c.loop-i.i ≡ c.args.n = omega (arith, c.loop-i.invariant.0, c.loop-i-test.false) in
-    c.loop-i.invariant.1 ∙ ap (slice c.args.vars.now c.args.lows.now c.args.highs.now c.args.nodes.now) n
+returns c = let n : c.loop-i.i ≡ c.args.n = omega (arith, c.loop-i-test.false) in
+    c.loop-i.invariant ∙ ap (slice c.args.vars.now c.args.lows.now c.args.highs.now c.args.nodes.now) n

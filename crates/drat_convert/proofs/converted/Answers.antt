@@ -9,18 +9,18 @@ pub returns-then-file-gt-LONGEST-clause-out_after :
     goal.returns-then-file-gt-LONGEST-clause-out_after
 returns-then-file-gt-LONGEST-clause-out_after c = too_long _ _ _ c.if-not-read.false c.if-file-gt-LONGEST.true
 
-pub returns-then-binary-clause-out_after : goal.returns-then-binary-clause-out_after
-returns-then-binary-clause-out_after c =
-    (in-binary _ _ _ _ _ c.if-not-read.false c.if-file-gt-LONGEST.false c.if-binary.true _ c.requires c.to_binary.ensures).0
+pub returns-in-ToBinary-clause-out_after : goal.returns-in-ToBinary-clause-out_after
+returns-in-ToBinary-clause-out_after c =
+    (in-binary _ _ _ _ _ c.if-not-read.false c.if-file-gt-LONGEST.false c.in-ToBinary.is _ c.requires c.to_binary.ensures).0
 
-pub returns-then-binary-clause-length_bound : goal.returns-then-binary-clause-length_bound
-returns-then-binary-clause-length_bound c =
-    (in-binary _ _ _ _ _ c.if-not-read.false c.if-file-gt-LONGEST.false c.if-binary.true _ c.requires c.to_binary.ensures).1
+pub returns-in-ToBinary-clause-length_bound : goal.returns-in-ToBinary-clause-length_bound
+returns-in-ToBinary-clause-length_bound c =
+    (in-binary _ _ _ _ _ c.if-not-read.false c.if-file-gt-LONGEST.false c.in-ToBinary.is _ c.requires c.to_binary.ensures).1
 
-pub returns-clause-out_after : goal.returns-clause-out_after
-returns-clause-out_after c =
-    (in-text _ _ _ _ _ c.if-not-read.false c.if-file-gt-LONGEST.false c.if-binary.false _ c.requires c.to_text.ensures).0
+pub returns-in-ToText-clause-out_after : goal.returns-in-ToText-clause-out_after
+returns-in-ToText-clause-out_after c =
+    (in-text _ _ _ _ _ c.if-not-read.false c.if-file-gt-LONGEST.false c.in-ToText.is _ c.requires c.to_text.ensures).0
 
-pub returns-clause-length_bound : goal.returns-clause-length_bound
-returns-clause-length_bound c =
-    (in-text _ _ _ _ _ c.if-not-read.false c.if-file-gt-LONGEST.false c.if-binary.false _ c.requires c.to_text.ensures).1
+pub returns-in-ToText-clause-length_bound : goal.returns-in-ToText-clause-length_bound
+returns-in-ToText-clause-length_bound c =
+    (in-text _ _ _ _ _ c.if-not-read.false c.if-file-gt-LONGEST.false c.in-ToText.is _ c.requires c.to_text.ensures).1

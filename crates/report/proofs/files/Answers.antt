@@ -1,31 +1,10 @@
--- The refusal of two files is the definition's: 25 and 24 of the formula, then of the proof.
--- Each way out is one case of the definition. Assumes nothing.
-use mathlib.Core.Path.{sym, ◌∙◌}
-use borrow.Author.Tests.{not-true, not-false}
-use Rattle.report.proofs.Saying.{no-formula, long-formula, no_proof, long-proof, both}
+-- The refusal of two files is the definition's: that of the formula, else that of the proof. Assumes nothing.
+use mathlib.Core.Path.{ap₂, ◌∙◌}
+use Rattle.std.specs.Option.{option_or}
+use Rattle.report.proofs.Saying.{files-either}
 use Rattle.report.proofs.files.Goals as goal
-
-pub returns-then-not-first : goal.returns-then-not-first
-returns-then-not-first c = c.refused.ensures ∙ sym (no-formula _ _ _ _ (not-true _ c.if-not-first.true-raw))
-
-pub returns-then-formula-gt-LONGEST : goal.returns-then-formula-gt-LONGEST
-returns-then-formula-gt-LONGEST c = c.refused-then-formula-gt-LONGEST.ensures
-    ∙ sym (long-formula _ _ _ _ (not-false _ c.if-not-first.false-raw) c.if-formula-gt-LONGEST.true)
-
-pub returns-then-not-second : goal.returns-then-not-second
-returns-then-not-second c =
-    c.refused-then-not-second.ensures
-    ∙ sym (no_proof _ _ _ _ (not-false _ c.if-not-first.false-raw) c.if-formula-gt-LONGEST.false
-    (not-true _ c.if-not-second.true-raw))
-
-pub returns-then-proof-gt-LONGEST : goal.returns-then-proof-gt-LONGEST
-returns-then-proof-gt-LONGEST c =
-    c.refused-then-proof-gt-LONGEST.ensures
-    ∙ sym (long-proof _ _ _ _ (not-false _ c.if-not-first.false-raw) c.if-formula-gt-LONGEST.false
-    (not-false _ c.if-not-second.false-raw) c.if-proof-gt-LONGEST.true)
 
 pub returns : goal.returns
 returns c =
-    c.refused-2.ensures
-    ∙ sym (both _ _ _ _ (not-false _ c.if-not-first.false-raw) c.if-formula-gt-LONGEST.false
-    (not-false _ c.if-not-second.false-raw) c.if-proof-gt-LONGEST.false)
+    let a = c.args in
+    c.or.ensures ∙ ap₂ option_or c.file.ensures c.file-2.ensures ∙ files-either a.first a.second a.formula.now a.proof.now

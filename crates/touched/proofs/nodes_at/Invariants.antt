@@ -1,11 +1,6 @@
 -- The walk over the places: so many nodes are filled in. Assumes nothing.
-use Prim.Native.Nat.{◌-◌}
-use lib.ListN.{length}
 use Rattle.touched.proofs.Places.{Filling}
 use Rattle.touched.proofs.nodes_at.Given as goal
 
 abbrev pub invariant-loop-k : goal.invariant-loop-k
 invariant-loop-k l = Filling l.list l.places l.initial.nodes l.nodes l.k
-
-abbrev pub decreases-loop-k : goal.decreases-loop-k
-decreases-loop-k l = length l.places - l.k

@@ -1,11 +1,6 @@
 -- The walk over the words: the places found so far are those of the words with a variable in `touching`. Assumes nothing.
-use Prim.Native.Nat.{◌-◌}
-use lib.ListN.{length}
 use Rattle.touched.proofs.Places.{Finding}
 use Rattle.touched.proofs.touched_places.Given as goal
 
 abbrev pub invariant-loop-i : goal.invariant-loop-i
 invariant-loop-i l = Finding l.words l.touching l.initial.places l.places l.i l.count
-
-abbrev pub decreases-loop-i : goal.decreases-loop-i
-decreases-loop-i l = length l.words - l.i

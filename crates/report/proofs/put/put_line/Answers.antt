@@ -5,7 +5,7 @@ use lib.ListN.{length}
 use lib.Seq.{length-take-le}
 use native.Mathlib.Omega.{arith}
 use Rattle.report.proofs.Putting.{put_whole}
-use Rattle.report.proofs.put.put_fields.Goals as goal
+use Rattle.report.proofs.put.put_line.Goals as goal
 
 pub returns : goal.returns
 returns c =
@@ -22,9 +22,9 @@ returns c =
       c.put_field-after_lines.auto.line,
       c.put_field-after_rounds.auto.line,
       c.put_field.auto.line,
-      c.requires,
     ) in
+    let number = rw c.from.ensures at c.put_field-after_number.ensures.put in
     let all =
-    put_whole _ c.put_field-after_number.ensures.put c.put_field-after_place.ensures.put c.put_field-after_lines.ensures.put
+    put_whole c.args.told number c.put_field-after_place.ensures.put c.put_field-after_lines.ensures.put
     c.put_field-after_rounds.ensures.put c.put_field.ensures.put in
     record { line_after = all.held; line_unchanged = all.rest; prefix_len = (within, sym (length-take-le _ _ within)) }
