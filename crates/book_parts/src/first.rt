@@ -6,7 +6,6 @@ ghost use Rattle.verdict.specs.Check.{verdict};
 ghost use Rattle.formula.specs.Formula.{Opened};
 ghost use Rattle.book_parts.specs.Firsts.{verdict_by, ReadBy};
 
-use dimacs::Header;
 use formula::Start;
 
 // All clauses are made; or a number, its place and the greatest count.
@@ -43,17 +42,22 @@ pub fn read_formula(
         members.new result }
 {
     match dimacs::read_header(formula) {
-        Header::Improper { number, place } => First::Refused {
-            number,
-            place,
+        Err(refusal) => First::Refused {
+            number: refusal.number,
+            place: refusal.place,
             peak: 2,
         },
-        Header::Proper {
-            variables,
-            clauses,
-            end,
-        } => match formula::read_clauses(
-            vars, lows, highs, heads, links, members, formula, variables, clauses, end,
+        Ok(h) => match formula::read_clauses(
+            vars,
+            lows,
+            highs,
+            heads,
+            links,
+            members,
+            formula,
+            h.variables,
+            h.clauses,
+            h.end,
         ) {
             Start::Refused {
                 number,
@@ -65,7 +69,7 @@ pub fn read_formula(
                 peak,
             },
             Start::Begun { count, made } => First::Made {
-                variables,
+                variables: h.variables,
                 count,
                 made,
             },

@@ -17,8 +17,6 @@ use Rattle.conflict.specs.Marks.{unmarked}
 use Rattle.commands.specs.declared.Command as code
 use Rattle.commands.specs.declared.Mode.{Mode}
 use Rattle.commands.specs.Commands.{Command, recorded, added, struck_out, wrong, finished, command_at}
-use Rattle.commands.specs.Inner.{command_of}
-use Rattle.profile.specs.Admitted.{admitted}
 use Rattle.verdict.specs.Steps as check
 use Rattle.verdict.specs.Check.{Verdict, verdict, zeros}
 use Rattle.verdict.specs.Run.{command_in}
@@ -39,7 +37,8 @@ use Rattle.line_again.specs.Made.{LeftBy, MadeAgain}
 use Rattle.line_again.proofs.Twice.{cause-same}
 use Rattle.line_again.proofs.Refusals.{RefusedAt, stops-again, spends-again}
 use Rattle.line_again.proofs.Making.{at_place, kept-is}
-use Rattle.command_causes.specs.Causes.{RefusedWith, RefusedBy}
+use Rattle.command_causes.specs.Causes.{command_let, RefusedWith, RefusedBy}
+use Rattle.std.specs.Prelude.{Option}
 
 known-fits : (n : ℕ) (c : Command) → Known n c → CommandFits n c
 known-fits n (recorded r more) known = tt
@@ -88,11 +87,11 @@ module _ (mode : Mode) (text proof : List ℕ) (l : Lent) (r : Checked)
     abbrev S : check.State
     S = state_of l' b.state
 
-    module _ (command : code.Command) (read : command
-        ≡ admitted mode.consequence (command_of (command_at mode.form proof b.variables r.place).command)) where
-      command-is : admitted mode.consequence (command_of c) ≡ command
+    module _ (command : Option code.Command) (read : command
+        ≡ command_let mode.consequence (command_at mode.form proof b.variables r.place).command) where
+      command-is : command_let mode.consequence c ≡ command
       command-is =
-          sym (read ∙ ap₂ (λ (n at : ℕ). admitted mode.consequence (command_of (command_at mode.form proof n at).command))
+          sym (read ∙ ap₂ (λ (n at : ℕ). command_let mode.consequence (command_at mode.form proof n at).command)
           M.variables
           place_is)
 
@@ -138,7 +137,7 @@ module _ (mode : Mode) (text proof : List ℕ) (l : Lent) (r : Checked)
 
       -- what it tells
       pub cause-told : (size m : ℕ) → size ≡ s → (t : Told)
-          → ((profile : Bool) (x : Command) → admitted profile (command_of x) ≡ command → CommandFits b.variables x →
+          → ((profile : Bool) (x : Command) → command_let profile x ≡ command → CommandFits b.variables x →
           RefusedWith profile b.variables size S r.number x → t ≡ told m (cause profile b.variables r.number S x))
           → t ≡ told m (cause_in mode r.number proof (ending mode s text proof))
       cause-told size m size_is t tells =

@@ -5,13 +5,11 @@ ghost use Rattle.std.specs.Prelude.{◌≡◌, true, ◌≤◌, length};
 ghost use Rattle.walks.specs.Readable.{Roomy};
 ghost use Rattle.conflict.specs.Marks.{unmarked};
 ghost use Rattle.commands.specs.Commands.{command_at};
-ghost use Rattle.commands.specs.Inner.{command_of};
-ghost use Rattle.profile.specs.Admitted.{admitted};
 ghost use Rattle.verdict.specs.Check.{verdict, zeros};
 ghost use Rattle.state.specs.States.{lent_of};
 ghost use Rattle.causes.specs.Explanation.{cause_in, ending};
 ghost use Rattle.causes.specs.Answers.{told};
-ghost use Rattle.command_causes.specs.Causes.{told_by};
+ghost use Rattle.command_causes.specs.Causes.{told_by, command_let};
 ghost use Rattle.line_again.specs.Before.{has_cause};
 ghost use Rattle.line_again.specs.Made.{LeftBy};
 
@@ -22,16 +20,16 @@ use session::Checked;
 // The memo's cells: those that a table of 65,536 places needs.
 const CELLS: usize = 65600;
 
-// The command at a place of the proof, within the profile or without it.
-fn command_in(proof: &[u8], at: usize, variables: u8, mode: Mode) -> Command
+// The command at a place of the proof, if it is let in within the profile or without it.
+fn command_in(proof: &[u8], at: usize, variables: u8, mode: Mode) -> Option<Command>
     requires { (at ≤ length proof.now) × (variables ≤ 64) }
     ensures { let read = command_at mode.form proof.now variables at in
-        result ≡ admitted mode.consequence (command_of read.command) }
+        result ≡ command_let mode.consequence read.command }
 {
-    let form = mode.form;
-    let read = commands::command_at(proof, at, variables, form);
-    let command = read.command;
-    profile::admitted(command, mode.consequence)
+    let Ok(read) = profile::admitted_at(proof, at, variables, mode) else {
+        return None;
+    };
+    Some(read.command)
 }
 
 // The cause of what the check refuses with 14, 18 or 19, over what it leaves, which is then as it was.

@@ -7,9 +7,7 @@ use native.Mathlib.Omega.{arith}
 use lib.ListN.{length}
 use Rattle.meaning.specs.Operations as meaning
 use Rattle.table.specs.Nodes.{Node, Placing, full, placed, place}
-use Rattle.dimacs.specs.declared.Header.{Header}
-use Rattle.dimacs.specs.declared.Header.TheVariants.{Proper, Improper}
-use Rattle.dimacs.specs.Header.{header}
+use Rattle.dimacs.specs.Header.{Header, Proper, Improper, header}
 use Rattle.dimacs.specs.Clauses.{Next, closed, refused, next_clause, Reading, clause, complete, refusal, reading_then, clauses_from}
 use Rattle.dimacs.specs.Clauses as dimacs
 use Rattle.dimacs.proofs.Bounds.{HeaderIn, header-in, NextIn, next-in}

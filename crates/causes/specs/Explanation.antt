@@ -2,9 +2,7 @@
 use Rattle.std.specs.Prelude.{cond, List, [], ◌∷◌, ◌++◌, ℕ, zero, suc, length, eqb}
 use Rattle.meaning.specs.Operations as meaning
 use Rattle.table.specs.Nodes.{Node, Placing, full, placed, place}
-use Rattle.dimacs.specs.declared.Header.{Header}
-use Rattle.dimacs.specs.declared.Header.TheVariants.{Proper, Improper}
-use Rattle.dimacs.specs.Header.{header}
+use Rattle.dimacs.specs.Header.{Header, Proper, Improper, header}
 use Rattle.dimacs.specs.Clauses.{Reading, clause, complete, refusal, clauses_from}
 use Rattle.commands.specs.declared.Mode.{Mode}
 use Rattle.commands.specs.Commands.{start, command_at}

@@ -21,7 +21,7 @@ use Rattle.table.specs.declared.Placed.{Placed}
 use Rattle.table.proofs.Outcomes.{place_in, dropped_to, longer, undone}
 use Rattle.clause.specs.Words.{clause_of_words}
 use Rattle.clausal.specs.Tries.{makes_true, makes_false, witness}
-use Rattle.commands.specs.declared.Pivot.TheVariants.{Nothing}
+use Rattle.std.specs.Prelude.{None}
 use Rattle.commands.specs.declared.DratClause.{DratClause}
 use Rattle.commands.specs.Inner.{pivot_of}
 use Rattle.verdict.specs.Steps as check
@@ -148,7 +148,7 @@ module _ (n : ℕ) (L : Lent) (st : State) (H : Held n L st) (T₁ : Table) (k :
         F.1.fixed.rounds-are F.1.fixed.words_are F.0
 
   try-told : (profile : Bool) (ls : List Literal) → OfVariables n ls → Made n L st T₁ k ls → (r : Failed) (words : List ℕ)
-      → TryTold (nodes_of T₁) L.members L.struck st.members k (literals_of ls) (cond profile Nothing (pivot_of ls)) r words
+      → TryTold (nodes_of T₁) L.members L.struck st.members k (literals_of ls) (cond profile None (pivot_of ls)) r words
       → told (length words) (clause_cause profile n S ls) ≡ told_of r words
   unfolding clause_cause
   try-told true ls w M r words F = first-told ls M r words F

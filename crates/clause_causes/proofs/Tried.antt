@@ -14,8 +14,8 @@ use Rattle.words.specs.Sets.{literals_of}
 use Rattle.table.specs.Nodes.{Node, diagram_at}
 use Rattle.table.specs.Indexed.{Table, nodes_of}
 use Rattle.table.specs.Lists.{diagrams_of}
-use Rattle.commands.specs.declared.Pivot.{Pivot}
-use Rattle.commands.specs.declared.Pivot.TheVariants.{Nothing, First}
+use Rattle.std.specs.Prelude.{Option, None, Some}
+use Rattle.dimacs.specs.declared.Literal as code_literal
 use Rattle.commands.specs.Inner.{pivot_of}
 use Rattle.judge.proofs.Widths.{rup-at, pr-at}
 use Rattle.verdict.specs.Steps as check
@@ -69,28 +69,28 @@ module _ (n : ℕ) (L : Lent) (st : State) (T₁ : Table) (k : ℕ) where
 
   -- THEOREM: what the code requires of the last try.
   pub try-fails : (profile : Bool) (ls : List Literal) → OfVariables n ls → Made n L st T₁ k ls → Unshown T₁ (last_line profile n S₁ ls)
-      → TryFails T₁ live k (literals_of ls) (cond profile Nothing (pivot_of ls))
+      → TryFails T₁ live k (literals_of ls) (cond profile None (pivot_of ls))
   try-fails true ls w M U = subst (Unshown T₁) (rup-is ls M) U
   try-fails false [] w M U = subst (Unshown T₁) (rup-is [] M) U
   try-fails false (q ∷ ls) w M U = subst (Unshown T₁) (second_is q ls w M) U
 
 -- ---- the code's answers, by the pivot
 
-module _ (t : Table) (alive : List ℕ) (g : ℕ) (u : Literals) (pivot : Pivot) where
-  pub first-fails : pivot ≡ Nothing → TryFails t alive g u pivot → Unshown t (rup_in t alive g)
+module _ (t : Table) (alive : List ℕ) (g : ℕ) (u : Literals) (pivot : Option code_literal.Literal) where
+  pub first-fails : pivot ≡ None → TryFails t alive g u pivot → Unshown t (rup_in t alive g)
   first-fails e F = subst (TryFails t alive g u) e F
 
-  pub second-fails : (v : ℕ) (b : Bool) → pivot ≡ First v b → (w : Literals) → w ≡ witness_words u v b → TryFails t alive g u pivot
+  pub second-fails : (l : code_literal.Literal) → pivot ≡ Some l → (w : Literals) → w ≡ witness_words u l.variable l.positive → TryFails t alive g u pivot
       → Unshown t (pr_in t alive g w)
-  second-fails v b e w is F = subst (λ (x : Literals). Unshown t (pr_in t alive g x)) (sym is) (subst (TryFails t alive g u) e F)
+  second-fails l e w is F = subst (λ (x : Literals). Unshown t (pr_in t alive g x)) (sym is) (subst (TryFails t alive g u) e F)
 
-module _ (t : List Node) (members struck : List ℕ) (many g : ℕ) (u : Literals) (pivot : Pivot) (r : Failed) (words : List ℕ) where
-  pub first-answer : pivot ≡ Nothing → FirstTold t (unstruck (take many struck) (take many members)) g r words
+module _ (t : List Node) (members struck : List ℕ) (many g : ℕ) (u : Literals) (pivot : Option code_literal.Literal) (r : Failed) (words : List ℕ) where
+  pub first-answer : pivot ≡ None → FirstTold t (unstruck (take many struck) (take many members)) g r words
       → TryTold t members struck many g u pivot r words
-  first-answer e F = subst (λ (q : Pivot). TryTold t members struck many g u q r words) (sym e) F
+  first-answer e F = subst (λ (q : Option code_literal.Literal). TryTold t members struck many g u q r words) (sym e) F
 
-  pub second-answer : (v : ℕ) (b : Bool) → pivot ≡ First v b → (w : Literals) → w ≡ witness_words u v b
+  pub second-answer : (l : code_literal.Literal) → pivot ≡ Some l → (w : Literals) → w ≡ witness_words u l.variable l.positive
       → SecondTold t members struck many g w r words → TryTold t members struck many g u pivot r words
-  second-answer v b e w is F =
-      subst (λ (q : Pivot). TryTold t members struck many g u q r words) (sym e)
+  second-answer l e w is F =
+      subst (λ (q : Option code_literal.Literal). TryTold t members struck many g u q r words) (sym e)
       (subst (λ (x : Literals). SecondTold t members struck many g x r words) is F)

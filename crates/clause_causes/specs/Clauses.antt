@@ -6,8 +6,8 @@ use Rattle.words.specs.declared.Literals.{Literals}
 use Rattle.table.specs.Nodes.{Node, diagram_at}
 use Rattle.table.specs.Indexed.{Table}
 use Rattle.table.specs.Lists.{diagrams_of}
-use Rattle.commands.specs.declared.Pivot.{Pivot}
-use Rattle.commands.specs.declared.Pivot.TheVariants.{Nothing, First}
+use Rattle.std.specs.Prelude.{Option, None, Some}
+use Rattle.dimacs.specs.declared.Literal as code_literal
 use Rattle.commands.specs.declared.DratClause.{DratClause}
 use Rattle.commands.specs.Inner.{clause_words}
 use Rattle.verdict.specs.Steps.{spent, unstruck}
@@ -47,9 +47,9 @@ told_of r words = record {
 -- ---- the last try, over the table with the clause's node g
 
 -- It finds room and is not shown: a RUP line without a pivot, else a PR line with the clause's witness.
-abbrev pub TryFails : Table → List ℕ → ℕ → Literals → Pivot → Type 0
-TryFails t live g u Nothing = Unshown t (rup_in t live g)
-TryFails t live g u (First v b) = Unshown t (pr_in t live g (witness_words u v b))
+abbrev pub TryFails : Table → List ℕ → ℕ → Literals → Option code_literal.Literal → Type 0
+TryFails t live g u None = Unshown t (rup_in t live g)
+TryFails t live g u (Some l) = Unshown t (pr_in t live g (witness_words u l.variable l.positive))
 
 -- Of the propagation: its rounds and their words, and no member.
 abbrev pub FirstTold : List Node → List ℕ → ℕ → Failed → List ℕ → Type 0
@@ -63,6 +63,6 @@ SecondTold t members struck many g w r words =
     (r.has_member ≡ true)
     × PrTold t w.positive w.negative (by_not (diagram_at t g) (diagrams_of t live)) members struck many r.member r.rounds words
 
-abbrev pub TryTold : List Node → List ℕ → List ℕ → ℕ → ℕ → Literals → Pivot → Failed → List ℕ → Type 0
-TryTold t members struck many g u Nothing r words = FirstTold t (unstruck (take many struck) (take many members)) g r words
-TryTold t members struck many g u (First v b) r words = SecondTold t members struck many g (witness_words u v b) r words
+abbrev pub TryTold : List Node → List ℕ → List ℕ → ℕ → ℕ → Literals → Option code_literal.Literal → Failed → List ℕ → Type 0
+TryTold t members struck many g u None r words = FirstTold t (unstruck (take many struck) (take many members)) g r words
+TryTold t members struck many g u (Some l) r words = SecondTold t members struck many g (witness_words u l.variable l.positive) r words

@@ -14,7 +14,7 @@ ghost use Rattle.causes.specs.Causes.{clause_cause};
 ghost use Rattle.causes.specs.Answers.{told};
 ghost use Rattle.clause_causes.specs.Clauses.{ClauseRefused, told_of, TryFails, TryTold};
 
-use commands::{DratClause, Pivot};
+use commands::DratClause;
 use state::State;
 use table::NodeNo;
 
@@ -66,7 +66,7 @@ fn tried_cause(
     let literals = clause.literals;
     let pivot = clause.pivot;
     match pivot {
-        Pivot::Nothing => {
+        None => {
             let rounds = tell::rup::rup_cause(
                 vars, lows, highs, heads, links, memo, members, scratch, struck, fixed, count,
                 many, g,
@@ -77,8 +77,8 @@ fn tried_cause(
                 member: 0,
             }
         }
-        Pivot::First { variable, positive } => {
-            let w = tries::witness(literals, variable, positive);
+        Some(l) => {
+            let w = tries::witness(literals, l.variable, l.positive);
             let t = tell::pr::pr_cause(
                 vars, lows, highs, heads, links, memo, marks, members, scratch, struck, fixed,
                 count, many, g, w,

@@ -13,16 +13,15 @@ use Rattle.records.specs.declared.Rule.TheVariants.{Pr}
 use Rattle.commands.specs.declared.DratClause.{DratClause}
 use Rattle.commands.specs.declared.Command as code
 use Rattle.commands.specs.Commands.{Command, added}
-use Rattle.commands.specs.Inner.{command_of}
 use Rattle.verdict.specs.Steps as check
 use Rattle.verdict.specs.Steps.{entry_node, diagram_in}
 use Rattle.verdict.specs.Check.{zeros}
-use Rattle.profile.specs.Admitted.{admitted}
 use Rattle.state.specs.declared.State.{State}
 use Rattle.state.specs.States.{Lent, state_of, Held}
 use Rattle.tries.specs.Tries.{PivotFits}
 use Rattle.tries.specs.Commands.{CommandFits}
-use Rattle.tries.proofs.Commands.{pivot-fits}
+use Rattle.tries.proofs.Commands.{added-fits}
+use Rattle.std.specs.Prelude.{Option}
 use Rattle.causes.specs.Causes.{variables, assignment, variables_of, line_cause, clause_cause, cause}
 use Rattle.causes.specs.Answers.{told}
 use Rattle.why.specs.Greedy.{Shut}
@@ -33,11 +32,11 @@ use Rattle.command_causes.specs.declared.Cause.{Cause}
 use Rattle.command_causes.specs.declared.Refused.{Refused}
 use Rattle.command_causes.specs.declared.Refused.TheVariants.{Plain, OutOfOrder, NotWitnessed, NotShown, ClauseNotShown}
 use Rattle.command_causes.specs.Choice.{command_choice}
-use Rattle.command_causes.specs.Causes.{told_by, of_numbers, of_rounds, RefusedWith, RefusedBy, LineRefused}
+use Rattle.command_causes.specs.Causes.{told_by, of_numbers, of_rounds, command_let, RefusedWith, RefusedBy, LineRefused}
 use Rattle.command_causes.proofs.Sorting.{LineSorted, ClauseSorted, Sorted, sorted}
 use Rattle.command_causes.proofs.Told.{told-plain, told-variables, told-word}
 
-module _ (n number : ℕ) (L : Lent) (x : State) (H : Held n L x) (command : code.Command) where
+module _ (n number : ℕ) (L : Lent) (x : State) (H : Held n L x) (command : Option code.Command) where
   abbrev s : ℕ
   s = length L.vars
 
@@ -84,18 +83,18 @@ module _ (n number : ℕ) (L : Lent) (x : State) (H : Held n L x) (command : cod
 
       pub asks-pivot : PivotFits d.pivot
       asks-pivot = subst (λ (e : DratClause). PivotFits e.pivot) clause-is.words
-          (pivot-fits B.profile n H.entries.narrow (added clause-is.literals) clause-is.within)
+          (added-fits B.profile n H.entries.narrow clause-is.literals clause-is.within)
 
   -- ---- what is told, with m words lent for the literals
 
   module _ (m : ℕ) (words : List ℕ) where
     abbrev pub Tells : Cause → Type 0
-    Tells r = (profile : Bool) (c : Command) → admitted profile (command_of c) ≡ command → CommandFits n c →
+    Tells r = (profile : Bool) (c : Command) → command_let profile c ≡ command → CommandFits n c →
         RefusedWith profile n s S number c → told_by r words ≡ told m (cause profile n number S c)
 
     -- what the cause is worked out from
     module _ (w : Refused) (is : command_choice number command ≡ w) where
-      from : (profile : Bool) (c : Command) → admitted profile (command_of c) ≡ command → CommandFits n c →
+      from : (profile : Bool) (c : Command) → command_let profile c ≡ command → CommandFits n c →
           RefusedWith profile n s S number c → Sorted profile n s S (cause profile n number S c) w
       from profile c e fits R =
           subst (Sorted profile n s S (cause profile n number S c)) is (sorted profile n s S number command c e fits R)

@@ -20,7 +20,10 @@ use Rattle.records.specs.declared.Record.TheVariants.{NodeEntry, Witness, ProofL
 use Rattle.records.specs.declared.Record.TheVariants.{CutShort, UnknownKind, NoRecord}
 use Rattle.commands.specs.declared.DratClause.{DratClause}
 use Rattle.commands.specs.declared.Command as code
-use Rattle.commands.specs.declared.Command.TheVariants.{Recorded, Wrong}
+use Rattle.commands.specs.declared.Command.TheVariants.{Recorded}
+use Rattle.std.specs.Prelude.{Option, Ok, Err}
+use Rattle.std.specs.Result.{result_ok}
+use Rattle.dimacs.specs.Inner.{refusal_at}
 use Rattle.commands.specs.Commands.{Command, recorded, added, struck_out, wrong, finished}
 use Rattle.commands.specs.Inner.{clause_words, command_of}
 use Rattle.verdict.specs.Steps.{State, Step, stop, spent, entry_node, diagram_in, node_step, line_step, record_step}
@@ -33,7 +36,7 @@ use Rattle.causes.proofs.Causes.{has_cause, cause-plain}
 use Rattle.command_causes.specs.declared.Refused.{Refused}
 use Rattle.command_causes.specs.declared.Refused.TheVariants.{Plain, OutOfOrder, NotWitnessed, NotShown, ClauseNotShown}
 use Rattle.command_causes.specs.Choice.{node_choice, shut_choice, line_choice, record_choice, command_choice}
-use Rattle.command_causes.specs.Causes.{RefusedWith}
+use Rattle.command_causes.specs.Causes.{command_let, RefusedWith}
 
 -- The cause x is that of the line, which is refused with 19.
 pub record LineSorted (n s : ℕ) (st : State) (rule : Rule) (root : ℕ) (x : Cause) : Type 0 where
@@ -157,12 +160,12 @@ module _ (profile : Bool) (n s : ℕ) (st : State) (number : ℕ) where
   step_of r more b q = ap (λ (x : Bool). cond x (stop 33 0) (record_step n s st more r)) q
 
   command-sorted : (c : Command) → CommandFits n c → RefusedWith profile n s st number c → Sorted profile n s st
-      (cause profile n number st c) (command_choice number (admitted profile (command_of c)))
+      (cause profile n number st c) (command_choice number (command_let profile c))
   unfolding cause step
   command-sorted (recorded r more) fits R = go (shut_out profile r) refl
     where
       go : (b : Bool) → shut_out profile r ≡ b → Sorted profile n s st (record_cause n number st r)
-          (command_choice number (cond b (Wrong 33 0) (Recorded r more)))
+          (command_choice number (result_ok (cond b (Err (refusal_at 33 0)) (Ok (Recorded r more)))))
       go true q = cause-plain profile n number st (recorded r more) (when_shut (subst Ends (step_of r more true q) R))
       go false q = record-sorted r more (subst Ends (step_of r more false q) R)
   command-sorted (added ls) fits R = go (eqb number 19) refl
@@ -178,8 +181,8 @@ module _ (profile : Bool) (n s : ℕ) (st : State) (number : ℕ) where
   command-sorted finished fits R = refl
 
   -- THEOREM: the cause of a refused command is worked out from what its number and its kind tell.
-  pub sorted : (command : code.Command) (c : Command) → admitted profile (command_of c) ≡ command → CommandFits n c →
+  pub sorted : (command : Option code.Command) (c : Command) → command_let profile c ≡ command → CommandFits n c →
       RefusedWith profile n s st number c → Sorted profile n s st (cause profile n number st c) (command_choice number command)
   sorted command c e fits R =
-      subst (λ (k : code.Command). Sorted profile n s st (cause profile n number st c) (command_choice number k)) e
+      subst (λ (k : Option code.Command). Sorted profile n s st (cause profile n number st c) (command_choice number k)) e
       (command-sorted c fits R)

@@ -1,5 +1,6 @@
 -- A cause in numbers as the code has it, and what is asked of the command that is refused. No call open to others cites this file.
-use Rattle.std.specs.Prelude.{◌≡◌, ◌≢◌, Bool, false, List, ℕ, ◌<◌, length}
+use Rattle.std.specs.Prelude.{◌≡◌, ◌≢◌, Bool, false, List, ℕ, ◌<◌, length, Option}
+use Rattle.std.specs.Result.{result_ok}
 use Rattle.meaning.specs.Words.{in_word}
 use Rattle.records.specs.declared.Rule.{Rule}
 use Rattle.commands.specs.declared.Command as code
@@ -46,11 +47,15 @@ abbrev pub RefusedWith : Bool → ℕ → ℕ → check.State → ℕ → Comman
 RefusedWith profile n s st number c =
     (number ≢ 19 → step profile n s st c ≡ stop number 0) × (number ≡ 19 → (peak : ℕ) × (step profile n s st c ≡ spent 19 peak))
 
+-- The command as the code has it, where the profile lets it in.
+abbrev pub command_let : Bool → Command → Option code.Command
+command_let profile c = result_ok (admitted profile (command_of c))
+
 -- The command, as the code has it, is refused with the number; the witness has variables of the header alone.
-pub record RefusedBy (n s : ℕ) (st : check.State) (number : ℕ) (command : code.Command) : Type 0 where
+pub record RefusedBy (n s : ℕ) (st : check.State) (number : ℕ) (command : Option code.Command) : Type 0 where
   pub profile : Bool
   pub said : Command
-  pub admits : admitted profile (command_of said) ≡ command
+  pub admits : command_let profile said ≡ command
   pub fits : CommandFits n said
   pub within : (v : ℕ) → n < v → in_word st.positive v ≡ false
   pub refused : RefusedWith profile n s st number said

@@ -1,5 +1,5 @@
 -- What the cause of a refused command is worked out from, as its number and its kind tell. No call open to others cites this file.
-use Rattle.std.specs.Prelude.{cond, ℕ, eqb}
+use Rattle.std.specs.Prelude.{cond, ℕ, eqb, Option, None, Some}
 use Rattle.records.specs.declared.EntryNo.{EntryNo}
 use Rattle.records.specs.declared.NodeBody.{NodeBody}
 use Rattle.records.specs.declared.Rule.{Rule}
@@ -9,7 +9,7 @@ use Rattle.records.specs.declared.Record.TheVariants.{NodeEntry, Witness, ProofL
 use Rattle.records.specs.declared.Record.TheVariants.{CutShort, UnknownKind, NoRecord}
 use Rattle.commands.specs.declared.DratClause.{DratClause}
 use Rattle.commands.specs.declared.Command.{Command}
-use Rattle.commands.specs.declared.Command.TheVariants.{Recorded, Added, Struck, Wrong, Finished}
+use Rattle.commands.specs.declared.Command.TheVariants.{Recorded, Added, Struck, Finished}
 use Rattle.command_causes.specs.declared.Refused.{Refused}
 use Rattle.command_causes.specs.declared.Refused.TheVariants.{Plain, OutOfOrder, NotWitnessed, NotShown, ClauseNotShown}
 
@@ -40,9 +40,10 @@ record_choice number NoRecord = Plain
 abbrev pub clause_choice : ℕ → DratClause → Refused
 clause_choice number c = cond (eqb number 19) (ClauseNotShown c) Plain
 
-abbrev pub command_choice : ℕ → Command → Refused
-command_choice number (Recorded r more) = record_choice number r
-command_choice number (Added c) = clause_choice number c
-command_choice number (Struck c) = Plain
-command_choice number (Wrong k offset) = Plain
-command_choice number Finished = Plain
+-- Where no command is let in, the number alone tells it.
+abbrev pub command_choice : ℕ → Option Command → Refused
+command_choice number None = Plain
+command_choice number (Some (Recorded r more)) = record_choice number r
+command_choice number (Some (Added c)) = clause_choice number c
+command_choice number (Some (Struck c)) = Plain
+command_choice number (Some Finished) = Plain

@@ -62,17 +62,17 @@ fn clause_choice(number: u8, clause: DratClause) -> Refused
     Refused::Plain
 }
 
-pub fn command_choice(number: u8, command: Command) -> Refused
+pub fn command_choice(number: u8, command: Option<Command>) -> Refused
     ensures { result ≡ command_choice number command }
 {
     match command {
-        Command::Recorded {
+        Some(Command::Recorded {
             record: rec,
             more: _,
-        } => record_choice(number, rec),
-        Command::Added(clause) => clause_choice(number, clause),
-        Command::Struck(_) => Refused::Plain,
-        Command::Wrong { .. } => Refused::Plain,
-        Command::Finished => Refused::Plain,
+        }) => record_choice(number, rec),
+        Some(Command::Added(clause)) => clause_choice(number, clause),
+        Some(Command::Struck(_)) => Refused::Plain,
+        Some(Command::Finished) => Refused::Plain,
+        None => Refused::Plain,
     }
 }

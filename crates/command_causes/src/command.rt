@@ -4,20 +4,18 @@ ghost use Rattle.table.specs.Indexed.{table_of};
 ghost use Rattle.walks.specs.Readable.{Roomy};
 ghost use Rattle.conflict.specs.Marks.{unmarked};
 ghost use Rattle.commands.specs.Commands as read;
-ghost use Rattle.commands.specs.Inner.{command_of};
 ghost use Rattle.verdict.specs.Check.{zeros};
-ghost use Rattle.profile.specs.Admitted.{admitted};
 ghost use Rattle.state.specs.States.{lent_of, state_of, Held};
 ghost use Rattle.tries.specs.Commands.{CommandFits};
 ghost use Rattle.causes.specs.Causes as causes;
 ghost use Rattle.causes.specs.Answers.{told};
-ghost use Rattle.command_causes.specs.Causes.{told_by, RefusedWith, RefusedBy};
+ghost use Rattle.command_causes.specs.Causes.{told_by, command_let, RefusedWith, RefusedBy};
 
 use crate::{Cause, Refused};
 use commands::Command;
 use state::State;
 
-// Of the command as it is admitted within the consequence profile or without it, in the state held, for the number that it is refused
+// Of the command as it is admitted, if it is, within the consequence profile or without it, in the state held, for the number that it is refused
 // with; 19's literals are told in `fixed`. What is made is dropped: table and marks are then as before; the scratch list is then anything.
 pub fn cause(
     vars: &mut [u8],
@@ -34,7 +32,7 @@ pub fn cause(
     st: State,
     variables: u8,
     number: u8,
-    command: Command,
+    command: Option<Command>,
 ) -> Cause
     requires { let lent = lent_of vars.old lows.old highs.old heads.old links.old members.now scratch.old
         struck.now in
@@ -46,7 +44,7 @@ pub fn cause(
         × RefusedBy variables (length vars.old) (state_of lent st) number command }
     ensures fixed_after { let lent = lent_of vars.old lows.old highs.old heads.old links.old
         members.now scratch.old struck.now in
-        (profile : Bool) (c : read.Command) → admitted profile (command_of c) ≡ command → CommandFits variables c →
+        (profile : Bool) (c : read.Command) → command_let profile c ≡ command → CommandFits variables c →
         RefusedWith profile variables (length vars.old) (state_of lent st) number c →
         told_by result fixed.new
         ≡ told (length fixed.old) (causes.cause profile variables number (state_of lent st) c) }

@@ -11,13 +11,11 @@ use lib.ListN.{length, get_or, drop, length-drop}
 use lib.Dec.{eqb, ltb}
 use borrow.Author.Tests.{eqb-true, eqb-false, ne_eqb, lt-ltb, ltb-true, ltb-false, lt-leb, le-leb}
 use Rattle.meaning.proofs.Booleans.{and-false, and_both, or-neither}
-use Rattle.dimacs.specs.declared.Token.{Token}
-use Rattle.dimacs.specs.declared.Token.TheVariants.{Closing, Literal, Wrong}
+use Rattle.dimacs.specs.Numbers.{Token, Closing, Literal, Wrong}
 use Rattle.dimacs.specs.Text.{run, past}
 use Rattle.dimacs.proofs.Runs.{past_stop}
-use Rattle.commands.specs.declared.binary.GroupsRead.{GroupsRead}
 use Rattle.commands.specs.Commands.{Groups, cut, groups, group_then, groups_in, groups_token}
-use Rattle.commands.specs.Inner.{is_open_group, literal_coded, groups_read}
+use Rattle.commands.specs.Inner.{is_open_group, literal_coded, Said, groups_said}
 
 -- The number that the first k open groups and the byte behind them make.
 number_in : ℕ → List ℕ → ℕ
@@ -108,8 +106,8 @@ module _ (s : List ℕ) (n at last : ℕ) (is : last ≡ past is_open_group s at
   unfolding past
   least = omega (arith, is)
 
-  pub read-cut : last ≡ length s → at ≤ length s → record { token = Wrong 6; end = at } ≡ groups_read n at (groups_in (drop at s))
-  read-cut e h = ap (groups_read n at) (sym (groups_none (drop at s) (run_is ∙ omega (arith, length-drop at s))))
+  pub read-cut : last ≡ length s → at ≤ length s → record { token = Wrong 6; end = at } ≡ groups_said n at (groups_in (drop at s))
+  read-cut e h = ap (groups_said n at) (sym (groups_none (drop at s) (run_is ∙ omega (arith, length-drop at s))))
 
   module _ (inside : last < length s) (top : ℕ) (top-is : top ≡ get_or s last 0) where
     here : groups_in (drop at s) ≡ groups (number_in (last - at) (drop at s)) (suc (last - at)) top
@@ -121,14 +119,14 @@ module _ (s : List ℕ) (n at last : ℕ) (is : last ≡ past is_open_group s at
 
     module _ (end : ℕ) (end_is : end ≡ last + 1) where
       says : (t : Token) → groups_token n (number_in (last - at) (drop at s)) (suc (last - at)) top ≡ t → record { token = t; end = end }
-          ≡ groups_read n at (groups_in (drop at s))
+          ≡ groups_said n at (groups_in (drop at s))
       says t e =
           let behind : at + suc (last - at) ≡ end = omega (arith, least, end_is) in
-          sym (ap (groups_read n at) here
-          ∙ ap₂ (λ (x : Token) (k : ℕ). ◌⟨GroupsRead⟩ x k) e behind)
+          sym (ap (groups_said n at) here
+          ∙ ap₂ (λ (x : Token) (k : ℕ). ◌⟨Said⟩ x k) e behind)
         where
-          ◌⟨GroupsRead⟩ : Token → ℕ → GroupsRead
-          ◌⟨GroupsRead⟩ x k = record { token = x; end = k }
+          ◌⟨Said⟩ : Token → ℕ → Said
+          ◌⟨Said⟩ x k = record { token = x; end = k }
 
       one_number : last ≡ at → number_in (last - at) (drop at s) ≡ top
       one_number e =
@@ -137,35 +135,35 @@ module _ (s : List ℕ) (n at last : ℕ) (is : last ≡ past is_open_group s at
           ap (λ (k : ℕ). number_in k (drop at s)) none ∙ number-one (drop at s) (omega (arith, length-drop at s)) ∙ get_d_drop at 0 s
           ∙ ap (λ (k : ℕ). get_or s k 0) same ∙ sym top-is
 
-      pub read-closing : last ≡ at → top ≡ 0 → record { token = Closing; end = end } ≡ groups_read n at (groups_in (drop at s))
+      pub read-closing : last ≡ at → top ≡ 0 → record { token = Closing; end = end } ≡ groups_said n at (groups_in (drop at s))
       read-closing e z =
           let one : suc (last - at) ≡ 1 = omega arith in
           let none : number_in (last - at) (drop at s) ≡ 0 = one_number e ∙ z in
           says Closing (rw (none, one) refl)
 
-      pub read_one : last ≡ at → top ≡ 1 → record { token = Wrong 31; end = end } ≡ groups_read n at (groups_in (drop at s))
+      pub read_one : last ≡ at → top ≡ 1 → record { token = Wrong 31; end = end } ≡ groups_said n at (groups_in (drop at s))
       read_one e z =
           let is_one : number_in (last - at) (drop at s) ≡ 1 = one_number e ∙ z in
           says (Wrong 31) (rw (is_one, z) refl)
 
       pub read_short : last ≡ at → top ≢ 0 → top ≢ 1 → (t : Token) → t ≡ literal_coded n top → record { token = t; end = end }
-          ≡ groups_read n at (groups_in (drop at s))
+          ≡ groups_said n at (groups_in (drop at s))
       read_short e nz no_one t is =
           says t (rw (one_number e, ne_eqb top 0 nz, ne_eqb top 1 no_one) (sym is))
 
-      pub read-surplus : last ≢ at → top ≡ 0 → record { token = Wrong 31; end = end } ≡ groups_read n at (groups_in (drop at s))
+      pub read-surplus : last ≢ at → top ≡ 0 → record { token = Wrong 31; end = end } ≡ groups_said n at (groups_in (drop at s))
       read-surplus more z =
           let many : eqb (suc (last - at)) 1 ≡ false = ne_eqb (suc (last - at)) 1 (λ q. more (omega (arith, least))) in
           says (Wrong 31) (rw (many, and-false (eqb (number_in (last - at) (drop at s)) 0), z) refl)
 
       -- a number above 1 of groups whose last is not 0
       large : (u : ℕ) → number_in (last - at) (drop at s) ≡ u → 2 ≤ u → top ≢ 0 → (t : Token) → t ≡ literal_coded n u →
-          record { token = t; end = end } ≡ groups_read n at (groups_in (drop at s))
+          record { token = t; end = end } ≡ groups_said n at (groups_in (drop at s))
       large u e two nz t is =
           says t (rw (e, ne_eqb u 0 (λ q. omega arith), ne_eqb top 0 nz, ne_eqb u 1 (λ q. omega arith)) (sym is))
 
       pub read-two : end - at ≡ 2 → top ≢ 0 → (u : ℕ) → u ≡ get_or s at 0 - 128 + 128 * top → (t : Token) → t ≡ literal_coded n u →
-          record { token = t; end = end } ≡ groups_read n at (groups_in (drop at s))
+          record { token = t; end = end } ≡ groups_said n at (groups_in (drop at s))
       read-two e nz u is t q =
           let one : last - at ≡ 1 = omega (arith, end_is) in
           let first : at + 0 ≡ at = omega arith in
@@ -184,7 +182,7 @@ module _ (s : List ℕ) (n at last : ℕ) (is : last ≡ past is_open_group s at
           omega (arith, far, farther)
 
       pub read-many : last ≢ at → end - at ≢ 2 → top ≢ 0 → n ≤ 64 → record { token = Wrong 4; end = end }
-          ≡ groups_read n at (groups_in (drop at s))
+          ≡ groups_said n at (groups_in (drop at s))
       read-many more no-two nz narrow =
           let k : ℕ = last - at - 2 in
           let three : suc (suc k) ≡ last - at = omega (arith, three-groups more no-two) in

@@ -1,5 +1,6 @@
 pub mod Groups
 pub mod Reading
+pub mod Answered
 pub mod OpenGroups
 pub mod Stream
 pub mod Onward

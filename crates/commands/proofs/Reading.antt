@@ -1,10 +1,10 @@
 -- What the reader of a text's clause answers: its places lie in the text and go on, its literals are the header's, its pivot is what its
 -- first token says; and the command that the code makes of it. The idea: by the token at hand. Assumes nothing.
-use mathlib.Core.Path.{◌≡◌, refl, sym, ap, ◌∙◌, subst}
+use mathlib.Core.Path.{◌≡◌, refl, sym, subst}
 use mathlib.Core.Logic.{◌≢◌}
 use mathlib.Core.Bool.{Bool, true, false, not, cond}
 use mathlib.Core.List.{List, [], ◌∷◌}
-use Prim.Native.Nat.{ℕ, zero, suc, ◌-◌, ◌≤◌, ◌<◌}
+use Prim.Native.Nat.{ℕ, zero, suc, ◌+◌, ◌-◌, ◌≤◌, ◌<◌}
 use native.Mathlib.Omega.{arith}
 use lib.ListN.{length}
 use lib.Seq.{slice, length-slice}
@@ -12,26 +12,24 @@ use lib.Dec.{ltb, leb}
 use borrow.Author.Tests.{ltb-true, ltb-false}
 use Rattle.meaning.specs.Operations as meaning
 use Rattle.meaning.specs.Literals.{OfVariables}
-use Rattle.words.specs.Sets.{no_literals, literals_of}
-use Rattle.dimacs.specs.declared.Token.{Token}
-use Rattle.dimacs.specs.declared.Token.TheVariants.{Closing, Literal, Wrong}
+use Rattle.words.specs.Sets.{literals_of}
 use Rattle.dimacs.specs.declared.ClosedClause.{ClosedClause}
-use Rattle.dimacs.specs.declared.Clause.{Clause}
-use Rattle.dimacs.specs.declared.Clause.TheVariants.{Closed, End, Refused}
+use Rattle.dimacs.specs.declared.Literal as code_literal
+use Rattle.dimacs.specs.declared.Refusal.{Refusal}
+use Rattle.std.specs.Prelude.{Option, None, Result, Ok, Err}
+use Rattle.std.specs.Result.{result_unwrap_or}
 use Rattle.dimacs.specs.Text.{is_token, token_end}
-use Rattle.dimacs.specs.Numbers.{is_zero, is_number, unsigned, has_minus, value_of_digits, token_of}
+use Rattle.dimacs.specs.Numbers.{Token, Closing, Literal, Wrong, is_zero, is_number, unsigned, has_minus, value_of_digits, token_of}
 use Rattle.dimacs.specs.Clauses.{Next, closed, ended, refused, literal_then, after_token, clause_from}
-use Rattle.dimacs.specs.Inner.{clause_after, clause_of}
+use Rattle.dimacs.specs.Inner.{clause_after, open_of, closed_with, refusal_at, token_read}
 use Rattle.dimacs.proofs.Cases.{by}
 use Rattle.dimacs.proofs.Runs.{past-least, past-most}
 use Rattle.dimacs.proofs.Between.{between-least}
 use Rattle.dimacs.proofs.Tokens.{literal-bounds}
 use Rattle.dimacs.proofs.OpenClause.{token_at, next_at, clause-suc, clause-end}
-use Rattle.commands.specs.declared.Pivot.{Pivot}
 use Rattle.commands.specs.declared.Command as code
-use Rattle.commands.specs.declared.Command.TheVariants as code-variants
 use Rattle.commands.specs.declared.Read as code_read
-use Rattle.commands.specs.Commands.{Command, clause_read}
+use Rattle.commands.specs.Commands.{clause_read}
 use Rattle.commands.specs.Inner.{pivot_of, pivot_at, clause_words, command_for, clause_command, read_of}
 
 -- ---- places and literals
@@ -121,7 +119,7 @@ module _ (s : List ℕ) (n first : ℕ) where
 -- ---- the pivot
 
 -- A clause that closes has that pivot.
-abbrev pub PivotIs : Pivot → Next → Type 0
+abbrev pub PivotIs : Option code_literal.Literal → Next → Type 0
 PivotIs p (closed ls f next) = pivot_of ls ≡ p
 PivotIs p (refused number place) = Unit {0}
 PivotIs p ended = Unit {0}
@@ -148,91 +146,47 @@ pivot-is s n (suc k) first at =
 
 -- ---- the code's answers
 
-abbrev some-clause : ClosedClause
-some-clause = record { literals = no_literals; first = 0; next = 0 }
-
-abbrev clause_in : Clause → ClosedClause
-clause_in (Closed c) = c
-clause_in End = some-clause
-clause_in (Refused number place) = some-clause
-
-abbrev number_in : Clause → ℕ
-number_in (Closed c) = 0
-number_in End = 0
-number_in (Refused number place) = number
-
-abbrev place_in : Clause → ℕ
-place_in (Closed c) = 0
-place_in End = 0
-place_in (Refused number place) = place
-
-abbrev kind : Clause → ℕ
-kind (Closed c) = 0
-kind End = 1
-kind (Refused number place) = 2
-
-differs : {A : Type 0} (x y : Clause) → x ≡ y → (kind x ≡ kind y → ⊥) → A
-differs x y e ne = absurd (ne (ap kind e))
-
 module _ (onward : ℕ → ℕ) (first : ℕ) (strikes : Bool) where
-  abbrev answer : Next → code_read.Read
-  answer x = read_of (clause_read onward first (command_for strikes) x)
+  abbrev answer : Next → Result code_read.Read Refusal
+  answer x = read_of first (clause_read onward first (command_for strikes) x)
 
   words : (b : Bool) (ls : List meaning.Literal) (next : ℕ)
-      → read_of (record { command = command_for b ls; next = next }) ≡ record { command = clause_command b (clause_words ls); next = next }
+      → read_of first (record { command = command_for b ls; next = next })
+      ≡ Ok (record { command = clause_command b (clause_words ls); next = next })
   words true ls next = refl
   words false ls next = refl
 
-  closed_is : (x : Next) (c : ClosedClause) (p : Pivot) (next : ℕ) → clause_of x ≡ Closed c → PivotIs p x → next ≡ onward c.next
-      → record { command = clause_command strikes (record { literals = c.literals; pivot = p }); next = next } ≡ answer x
-  unfolding clause_after
-  closed_is (closed ls f end) c p next e q is =
-      let same : record { literals = literals_of ls; first = f; next = end } ≡ c = ap clause_in e in
-      sym (words strikes ls (onward end)
-      ∙ ap (λ (p : Pivot). record { command = clause_command strikes (record { literals = literals_of ls; pivot = p }); next = onward end })
-      q
-      ∙ ap (λ (c : ClosedClause). record {
-        command = clause_command strikes (record { literals = c.literals; pivot = p });
-        next =
-            onward c.next;
-      }) same
-      ∙ ap (λ (m : ℕ). record { command = clause_command strikes (record { literals = c.literals; pivot = p }); next = m }) (sym is))
-  closed_is (refused number place) c p next e q is = differs (Refused number place) (Closed c) e (λ z. omega arith)
-  closed_is ended c p next e q is = differs End (Closed c) e (λ z. omega arith)
-
-  pub answer-closed : (x : Next) (c : ClosedClause) (p p' : Pivot) (next : ℕ) (command : code.Command) → clause_of x ≡ Closed c → p ≡ p' →
-      PivotIs p' x
+  pub answer-closed : (x : Next) (c : ClosedClause) (p p' : Option code_literal.Literal) (next : ℕ) (command : code.Command) → Ok c
+      ≡ open_of x → p ≡ p' → PivotIs p' x
       → next ≡ onward c.next → command ≡ clause_command strikes (record { literals = c.literals; pivot = p }) →
-      record { command = command; next = next } ≡ answer x
-  answer-closed x c p p' next command e r q is m =
-      ap (λ (m : code.Command). record { command = m; next = next })
-      (m ∙ ap (λ (p : Pivot). clause_command strikes (record { literals = c.literals; pivot = p })) r)
-      ∙ closed_is x c p' next e q is
-
-  pub answer-refused : (x : Next) (number place : ℕ) → clause_of x ≡ Refused number place
-      → record { command = code-variants.Wrong number (place - first); next = first } ≡ answer x
+      Ok (record { command = command; next = next }) ≡ answer x
   unfolding clause_after
-  answer-refused (closed ls f end) number place e = differs (clause_of (closed ls f end)) (Refused number place) e (λ z. omega arith)
-  answer-refused (refused k at) number place e = sym
-      (ap (λ (m : ℕ). record { command = code-variants.Wrong m (at - first); next = first }) (ap number_in e)
-      ∙ ap (λ (m : ℕ). record { command = code-variants.Wrong number (m - first); next = first }) (ap place_in e))
-  answer-refused ended number place e = differs End (Refused number place) e (λ z. omega arith)
+  answer-closed (closed ls f end) c p p' next command e r q is m =
+      let same : c ≡ closed_with (literals_of ls) f end = cc in
+      rw (words strikes ls (onward end), q, m, is, same, r)
+  answer-closed (refused number place) c p p' next command e r q is m = cc
+  answer-closed ended c p p' next command e r q is m = cc
 
-  pub answer-end : (x : Next) → clause_of x ≡ End → record { command = code-variants.Wrong 6 0; next = first } ≡ answer x
+  pub answer-refused : (F : ℕ → ℕ → ℕ → Type 0) (s : List ℕ) (n at : ℕ) (x : Next) (r : Refusal) → ClauseIn F s n first at x
+      → Err r ≡ open_of x → Err r ≡ answer x
   unfolding clause_after
-  answer-end (closed ls f end) e = differs (clause_of (closed ls f end)) End e (λ z. omega arith)
-  answer-end (refused number place) e = differs (Refused number place) End e (λ z. omega arith)
-  answer-end ended e = refl
+  answer-refused F s n at (closed ls f end) r h e = cc
+  answer-refused F s n at (refused k place) r h e =
+      let same : r ≡ refusal_at k place = cc in
+      let there : first + (place - first) ≡ place = omega (arith, h.0) in
+      rw (same, there)
+  answer-refused F s n at ended r h e = absurd h
 
 module _ (F : ℕ → ℕ → ℕ → Type 0) (s : List ℕ) (n first at : ℕ) where
-  pub closed_in : (x : Next) (c : ClosedClause) → ClauseIn F s n first at x → clause_of x ≡ Closed c → c.next ≤ length s
+  pub closed_in : (x : Next) (c : ClosedClause) → ClauseIn F s n first at x → Ok c ≡ open_of x → c.next ≤ length s
   unfolding clause_after
-  closed_in (closed ls f end) c h e = subst (λ (c : ClosedClause). c.next ≤ length s) (ap clause_in e) h.1
-  closed_in (refused number place) c h e = differs (Refused number place) (Closed c) e (λ z. omega arith)
+  closed_in (closed ls f end) c h e =
+      let same : c ≡ closed_with (literals_of ls) f end = cc in subst (λ (c : ClosedClause). c.next ≤ length s) (sym same) h.1
+  closed_in (refused number place) c h e = cc
   closed_in ended c h e = absurd h
 
-  pub refused-in : (x : Next) (number place : ℕ) → ClauseIn F s n first at x → clause_of x ≡ Refused number place → first ≤ place
-  unfolding clause_after
-  refused-in (closed ls f end) number place h e = differs (clause_of (closed ls f end)) (Refused number place) e (λ z. omega arith)
-  refused-in (refused k p) number place h e = subst (λ (m : ℕ). first ≤ m) (ap place_in e) h.0
-  refused-in ended number place h e = absurd h
+-- the pivot by what the code reads of the first token
+pub pivot-read : (t : Token) → result_unwrap_or (token_read t) None ≡ pivot_at t
+pivot-read Closing = refl
+pivot-read (Literal v b) = refl
+pivot-read (Wrong k) = refl

@@ -5,8 +5,7 @@ use Rattle.std.specs.Prelude.{drop, eqb, ltb}
 use Rattle.meaning.specs.Operations as meaning
 use Rattle.dimacs.specs.Text.{between, between_from}
 use Rattle.dimacs.specs.Header.{is_word}
-use Rattle.dimacs.specs.declared.Token.{Token}
-use Rattle.dimacs.specs.declared.Token.TheVariants.{Closing, Literal, Wrong}
+use Rattle.dimacs.specs.Numbers.{Token, Closing, Literal, Wrong}
 use Rattle.dimacs.specs.Clauses.{Next, closed, ended, refused, after_token, clause_from}
 use Rattle.records.specs.declared.Record.{Record}
 use Rattle.records.specs.Records.{record_at, length_of}

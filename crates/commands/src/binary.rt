@@ -1,18 +1,18 @@
 // Binary DRAT: the clause that stands next, added or struck out. (02, 9/14)
 ghost use Rattle.std.specs.Prelude.{◌≡◌, ◌+◌, ◌-◌, ◌≤◌, ◌<◌, length, drop};
 ghost use Rattle.dimacs.specs.Text.{past};
-ghost use Rattle.dimacs.specs.Inner.{clause_of};
+ghost use Rattle.dimacs.specs.Inner.{token_read, open_of};
 ghost use Rattle.commands.specs.Commands.{groups_in, clause_read, binary_from, binary_read};
 ghost use Rattle.commands.specs.Inner.{is_open_group, literal_coded, groups_read, fault_place, command_for, read_of};
 
 use crate::{Command, DratClause, Read};
-use dimacs::{Clause, ClosedClause, Token};
+use dimacs::{ClosedClause, Literal, Refusal};
 use words::Literals;
 
-// What groups say, 6 where they are cut, and the place behind them.
+// What groups say, as a token does, or 6 where they are cut; and the place behind them.
 #[derive(Clone, Copy)]
 pub struct GroupsRead {
-    pub token: Token,
+    pub token: Result<Option<Literal>, u8>,
     pub end: usize,
 }
 
@@ -22,29 +22,26 @@ fn last_group(s: &[u8], at: usize) -> usize
     ensures value { result ≡ past is_open_group s.now at }
     ensures lower_bound { (at ≤ result) × (result ≤ length s.now) }
 {
-    let mut i = at;
-    while i < s.len() {
+    for i in at..s.len() {
         if s[i] < 128 {
             return i;
         }
-        i += 1;
     }
-    i
+    s.len()
 }
 
 // The literal of a number, in a formula of so many variables.
-fn literal_of(number: u16, variables: u8) -> Token
-    ensures { result ≡ literal_coded variables number }
+fn literal_of(number: u16, variables: u8) -> Result<Option<Literal>, u8>
+    ensures { result ≡ token_read (literal_coded variables number) }
 {
     let v = number / 2;
-    if (variables as u16) < v {
-        return Token::Wrong(4);
+    if u16::from(variables) < v {
+        return Err(4);
     }
-    let variable = v as u8;
-    Token::Literal {
-        variable,
+    Ok(Some(Literal {
+        variable: v as u8,
         positive: number % 2 == 0,
-    }
+    }))
 }
 
 // The groups at `at`. Three groups whose last is not 0 make more than any variable's number.
@@ -55,7 +52,7 @@ pub fn groups_at(s: &[u8], at: usize, variables: u8) -> GroupsRead
     let last = last_group(s, at);
     if last == s.len() {
         return GroupsRead {
-            token: Token::Wrong(6),
+            token: Err(6),
             end: at,
         };
     }
@@ -64,13 +61,13 @@ pub fn groups_at(s: &[u8], at: usize, variables: u8) -> GroupsRead
     if last == at {
         if top == 0 {
             return GroupsRead {
-                token: Token::Closing,
+                token: Ok(None),
                 end,
             };
         }
         if top == 1 {
             return GroupsRead {
-                token: Token::Wrong(31),
+                token: Err(31),
                 end,
             };
         }
@@ -81,7 +78,7 @@ pub fn groups_at(s: &[u8], at: usize, variables: u8) -> GroupsRead
     }
     if top == 0 {
         return GroupsRead {
-            token: Token::Wrong(31),
+            token: Err(31),
             end,
         };
     }
@@ -92,10 +89,7 @@ pub fn groups_at(s: &[u8], at: usize, variables: u8) -> GroupsRead
             end,
         };
     }
-    GroupsRead {
-        token: Token::Wrong(4),
-        end,
-    }
+    GroupsRead { token: Err(4), end }
 }
 
 // The place of a fault of form: 6 at the opening byte, the others at the literal.
@@ -109,9 +103,9 @@ pub fn fault_place(number: u8, first: usize, at: usize) -> usize
 }
 
 // The clause of the literals from `from` on, up to its zero byte; `first` is its opening byte.
-fn open_groups(s: &[u8], first: usize, from: usize, variables: u8) -> Clause
+fn open_groups(s: &[u8], first: usize, from: usize, variables: u8) -> Result<ClosedClause, Refusal>
     requires { (from ≤ length s.now) × (variables ≤ 64) }
-    ensures { result ≡ clause_of (binary_from s.now variables (length s.now - from) first from) }
+    ensures { result ≡ open_of (binary_from s.now variables (length s.now - from) first from) }
 {
     let mut literals = Literals {
         positive: 0,
@@ -123,71 +117,52 @@ fn open_groups(s: &[u8], first: usize, from: usize, variables: u8) -> Clause
         let end = groups.end;
         let token = groups.token;
         match token {
-            Token::Closing => {
-                return Clause::Closed(ClosedClause {
+            Ok(None) => {
+                return Ok(ClosedClause {
                     literals,
                     first,
                     next: end,
                 });
             }
-            Token::Wrong(number) => {
-                return Clause::Refused {
+            Err(number) => {
+                return Err(Refusal {
                     number,
                     place: fault_place(number, first, at),
-                };
+                });
             }
-            Token::Literal { variable, positive } => {
-                literals = words::with_literal(literals, variable, positive);
+            Ok(Some(l)) => {
+                literals = words::with_literal(literals, l.variable, l.positive);
                 at = end;
             }
         }
     }
-    Clause::Refused {
+    Err(Refusal {
         number: 6,
         place: first,
-    }
+    })
 }
 
 // The command whose opening byte is at `at`.
-fn clause_in(s: &[u8], at: usize, variables: u8, strikes: bool) -> Read
+fn clause_in(s: &[u8], at: usize, variables: u8, strikes: bool) -> Result<Read, Refusal>
     requires { (at < length s.now) × (variables ≤ 64) }
     ensures { let next = binary_from s.now variables (length s.now - (at + 1)) at (at + 1) in
-        result ≡ read_of (clause_read (λ end. end) at (command_for strikes) next) }
+        result ≡ read_of at (clause_read (λ end. end) at (command_for strikes) next) }
 {
-    match open_groups(s, at, at + 1, variables) {
-        Clause::Closed(closed) => {
-            let literals = closed.literals;
-            let next = closed.next;
-            let groups = groups_at(s, at + 1, variables);
-            let token = groups.token;
-            let pivot = crate::pivot_of(token);
-            let clause = DratClause { literals, pivot };
-            Read {
-                command: crate::clause_command(strikes, clause),
-                next,
-            }
-        }
-        Clause::End => Read {
-            command: Command::Wrong {
-                number: 6,
-                offset: 0,
-            },
-            next: at,
-        },
-        Clause::Refused { number, place } => Read {
-            command: Command::Wrong {
-                number,
-                offset: place - at,
-            },
-            next: at,
-        },
-    }
+    let closed = open_groups(s, at, at + 1, variables)?;
+    let literals = closed.literals;
+    let groups = groups_at(s, at + 1, variables);
+    let pivot = groups.token.unwrap_or(None);
+    let clause = DratClause { literals, pivot };
+    Ok(Read {
+        command: crate::clause_command(strikes, clause),
+        next: closed.next,
+    })
 }
 
 // The command of a binary proof whose first byte is at `at`. 97 is `61`, 100 is `64`.
-pub fn binary_at(s: &[u8], at: usize, variables: u8) -> Read
+pub fn binary_at(s: &[u8], at: usize, variables: u8) -> Result<Read, Refusal>
     requires { (at ≤ length s.now) × (variables ≤ 64) }
-    ensures { result ≡ read_of (binary_read s.now variables at) }
+    ensures { result ≡ read_of at (binary_read s.now variables at) }
 {
     if at < s.len() {
         let kind = s[at];
@@ -197,16 +172,13 @@ pub fn binary_at(s: &[u8], at: usize, variables: u8) -> Read
         if kind == 100 {
             return clause_in(s, at, variables, true);
         }
-        return Read {
-            command: Command::Wrong {
-                number: 9,
-                offset: 0,
-            },
-            next: at,
-        };
+        return Err(Refusal {
+            number: 9,
+            place: at,
+        });
     }
-    Read {
+    Ok(Read {
         command: Command::Finished,
         next: at,
-    }
+    })
 }

@@ -4,12 +4,12 @@
 mod binary;
 mod text;
 
-ghost use Rattle.std.specs.Prelude.{◌≡◌, ◌≤◌, length};
+ghost use Rattle.std.specs.Prelude.{◌≡◌, ◌≤◌, length, Ok};
 ghost use Rattle.commands.specs.Commands.{record_read, start, command_at};
-ghost use Rattle.commands.specs.Inner.{pivot_at, clause_command, read_of};
+ghost use Rattle.commands.specs.Inner.{clause_command, read_of};
 
 pub use binary::{GroupsRead, fault_place, groups_at};
-use dimacs::Token;
+use dimacs::{Literal, Refusal};
 use records::Record;
 use words::Literals;
 
@@ -28,28 +28,19 @@ pub struct Mode {
     pub consequence: bool,
 }
 
-// A clause's first literal; nothing for the empty clause.
-#[derive(Clone, Copy)]
-pub enum Pivot {
-    Nothing,
-    First { variable: u8, positive: bool },
-}
-
-// A clause of a DRAT proof: the set of its literals, and its pivot.
+// A clause of a DRAT proof: the set of its literals, and its pivot, which is its first literal; the empty clause has none.
 #[derive(Clone, Copy)]
 pub struct DratClause {
     pub literals: Literals,
-    pub pivot: Pivot,
+    pub pivot: Option<Literal>,
 }
 
-// A record, and whether a byte follows it; a clause added or struck out; a number and a place, counted from the command's first byte; the
-// end of a DRAT proof.
+// A record, and whether a byte follows it; a clause added or struck out; the end of a DRAT proof.
 #[derive(Clone, Copy)]
 pub enum Command {
     Recorded { record: Record, more: bool },
     Added(DratClause),
     Struck(DratClause),
-    Wrong { number: u8, offset: usize },
     Finished,
 }
 
@@ -58,17 +49,6 @@ pub enum Command {
 pub struct Read {
     pub command: Command,
     pub next: usize,
-}
-
-// The pivot of a clause, by what its first token says.
-fn pivot_of(token: Token) -> Pivot
-    ensures { result ≡ pivot_at token }
-{
-    match token {
-        Token::Closing => Pivot::Nothing,
-        Token::Literal { variable, positive } => Pivot::First { variable, positive },
-        Token::Wrong(_) => Pivot::Nothing,
-    }
 }
 
 // The command of a clause.
@@ -84,7 +64,7 @@ fn clause_command(strikes: bool, clause: DratClause) -> Command
 // The record whose first byte is at `at`.
 fn record_read(proof: &[u8], at: usize) -> Read
     requires { at ≤ length proof.now }
-    ensures { result ≡ read_of (record_read proof.now at) }
+    ensures { Ok result ≡ read_of at (record_read proof.now at) }
 {
     let record = records::record_from(proof, at);
     let next = at + records::record_length(record);
@@ -109,13 +89,13 @@ pub fn start_of(proof: &[u8], form: Form) -> usize
     }
 }
 
-// The command whose first byte is at `at`, in a formula of so many variables.
-pub fn command_at(proof: &[u8], at: usize, variables: u8, form: Form) -> Read
+// The command whose first byte is at `at`, in a formula of so many variables; or its fault of form.
+pub fn command_at(proof: &[u8], at: usize, variables: u8, form: Form) -> Result<Read, Refusal>
     requires { (at ≤ length proof.now) × (variables ≤ 64) }
-    ensures { result ≡ read_of (command_at form proof.now variables at) }
+    ensures { result ≡ read_of at (command_at form proof.now variables at) }
 {
     match form {
-        Form::Records => record_read(proof, at),
+        Form::Records => Ok(record_read(proof, at)),
         Form::Text => text::text_at(proof, at, variables),
         Form::Binary => binary::binary_at(proof, at, variables),
     }

@@ -9,8 +9,7 @@ use lib.ListN.{length, length-append}
 use lib.Dec.{eqb, ltb}
 use borrow.Author.Tests.{ne_eqb, lt-ltb, le-ltb, ltb-false}
 use Rattle.meaning.specs.Operations as meaning
-use Rattle.dimacs.specs.declared.Token.{Token}
-use Rattle.dimacs.specs.declared.Token.TheVariants.{Literal}
+use Rattle.dimacs.specs.Numbers.{Token, Literal}
 use Rattle.dimacs.specs.Clauses.{closed, literal_then, after_token}
 use Rattle.commands.specs.declared.Form.TheVariants.{Binary}
 use Rattle.commands.specs.Commands.{Read, reading, Groups, groups, groups_in, groups_token, after_groups, binary_from, binary_read, added}

@@ -8,8 +8,7 @@ use native.Mathlib.Omega.{arith}
 use lib.ListN.{length, drop, length-append}
 use lib.Seq.{slice, length-slice}
 use lib.Dec.{eqb, ltb}
-use Rattle.dimacs.specs.declared.Token.{Token}
-use Rattle.dimacs.specs.declared.Token.TheVariants.{Closing, Literal, Wrong}
+use Rattle.dimacs.specs.Numbers.{Token, Closing, Literal, Wrong}
 use Rattle.dimacs.specs.Text.{is_token, token_end, between}
 use Rattle.dimacs.specs.Clauses.{Next, closed, refused, literal_then, after_token, clause_from}
 use Rattle.dimacs.proofs.Runs.{past-most}
@@ -17,9 +16,11 @@ use Rattle.dimacs.proofs.Between.{between-least}
 use Rattle.dimacs.proofs.OpenClause.{token_at, next_at, clause-end, clause-suc, clause-fuel}
 use Rattle.commands.specs.declared.binary.GroupsRead.{GroupsRead}
 use Rattle.commands.specs.Commands.{Groups, cut, groups, groups_in, groups_token, after_groups, binary_from}
-use Rattle.commands.specs.Inner.{groups_read, fault_place}
+use Rattle.std.specs.Prelude.{Option, None, Some, Ok, Err}
+use Rattle.dimacs.specs.declared.Literal as code_literal
+use Rattle.commands.specs.Inner.{Said, groups_said, groups_read, fault_place}
 use Rattle.commands.proofs.Groups.{token-by}
-use Rattle.commands.proofs.OpenGroups.{binary-end, binary-suc, binary-fuel, IsLiteral, literal-in}
+use Rattle.commands.proofs.OpenGroups.{binary-end, binary-suc, binary-fuel, IsLiteral, literal-in-said, end-is, closing-is, wrong-is, literal-is}
 use Rattle.convert.specs.Convert.{digits_of, token_text}
 use Rattle.convert.specs.Inner.{literal_made}
 use Rattle.convert.proofs.Plain.{Owned, OwnedBy, token-own}
@@ -112,7 +113,7 @@ module _ (s : List ℕ) (first at : ℕ) where
   pub binary-open : length s ≤ at → binary_rest s first at ≡ refused 6 first
   binary-open h = binary-end s 64 (length s - at) first at h
 
-  module _ (inside : at < length s) (r : GroupsRead) (is : r ≡ groups_read 64 at (groups_in (drop at s))) where
+  module _ (inside : at < length s) (r : Said) (is : r ≡ groups_said 64 at (groups_in (drop at s))) where
     there : (g : Groups) → groups_in (drop at s) ≡ g → binary_rest s first at
         ≡ after_groups 64 first at g (λ next. binary_from s 64 (length s - (at + 1)) first next)
     there g e =
@@ -121,35 +122,35 @@ module _ (s : List ℕ) (first at : ℕ) where
         ∙ ap (λ (x : Groups). after_groups 64 first at x (λ next. binary_from s 64 (length s - (at + 1)) first next)) e
 
     -- what groups that are not cut say
-    said : (number many last : ℕ) → groups_in (drop at s) ≡ groups number many last
+    groups-are : (number many last : ℕ) → groups_in (drop at s) ≡ groups number many last
         → (r.token ≡ groups_token 64 number many last) × (r.end ≡ at + many)
-    said number many last e =
-        let q : r ≡ groups_read 64 at (groups number many last) = is ∙ ap (groups_read 64 at) e in
-        (ap (λ (x : GroupsRead). x.token) q, ap (λ (x : GroupsRead). x.end) q)
+    groups-are number many last e =
+        let q : r ≡ groups_said 64 at (groups number many last) = is ∙ ap (groups_said 64 at) e in
+        (ap (λ (x : Said). x.token) q, ap (λ (x : Said). x.end) q)
 
-    said-cut : groups_in (drop at s) ≡ cut → r.token ≡ Wrong 6
-    said-cut e = ap (λ (x : GroupsRead). x.token) (is ∙ ap (groups_read 64 at) e)
+    cut-is : groups_in (drop at s) ≡ cut → r.token ≡ Wrong 6
+    cut-is e = ap (λ (x : Said). x.token) (is ∙ ap (groups_said 64 at) e)
 
-    pub binary-closing : r.token ≡ Closing → binary_rest s first at ≡ closed [] first r.end
-    binary-closing e = go (groups_in (drop at s)) refl
+    binary-closing-said : r.token ≡ Closing → binary_rest s first at ≡ closed [] first r.end
+    binary-closing-said e = go (groups_in (drop at s)) refl
       where
         go : (g : Groups) → groups_in (drop at s) ≡ g → binary_rest s first at ≡ closed [] first r.end
-        go cut q = other (Wrong 6) Closing (λ z. omega arith) (sym (said-cut q) ∙ e)
+        go cut q = other (Wrong 6) Closing (λ z. omega arith) (sym (cut-is q) ∙ e)
         go (groups number many last) q =
-            let (token, end) = said number many last q in
+            let (token, end) = groups-are number many last q in
             there (groups number many last) q ∙ ap
             (λ (t : Token). after_token t first at (at + many) (binary_from s 64 (length s - (at + 1)) first (at + many))) (sym token ∙ e)
             ∙ ap (closed [] first) (sym end)
 
-    pub binary-wrong : (k : ℕ) → r.token ≡ Wrong k → binary_rest s first at ≡ refused k (fault_place k first at)
-    binary-wrong k e = go (groups_in (drop at s)) refl
+    binary-wrong-said : (k : ℕ) → r.token ≡ Wrong k → binary_rest s first at ≡ refused k (fault_place k first at)
+    binary-wrong-said k e = go (groups_in (drop at s)) refl
       where
         go : (g : Groups) → groups_in (drop at s) ≡ g → binary_rest s first at ≡ refused k (fault_place k first at)
         go cut q =
-            let six : 6 ≡ k = ap wrong_in (sym (said-cut q) ∙ e) in
+            let six : 6 ≡ k = ap wrong_in (sym (cut-is q) ∙ e) in
             there cut q ∙ ap (λ (m : ℕ). refused m (fault_place m first at)) six
         go (groups number many last) q =
-            let (token, end) = said number many last q in
+            let (token, end) = groups-are number many last q in
             there (groups number many last) q
             ∙ ap (λ (t : Token). after_token t first at (at + many) (binary_from s 64 (length s - (at + 1)) first (at + many)))
             (sym token ∙ e)
@@ -159,19 +160,37 @@ module _ (s : List ℕ) (first at : ℕ) where
             (λ e. ap (λ (m : ℕ). fault_place m first at) (ap wrong_in e))
             (λ p q r e. other (Literal (number / 2) (eqb (number % 2) 0)) (Wrong k) (λ z. omega arith) e) (sym token ∙ e))
 
-    pub binary-literal : (v : ℕ) (b : Bool) → r.token ≡ Literal v b → binary_rest s first at
+    binary-literal-said : (v : ℕ) (b : Bool) → r.token ≡ Literal v b → binary_rest s first at
         ≡ literal_then (literal_made v b) (binary_rest s first r.end)
-    binary-literal v b e = go (groups_in (drop at s)) refl
+    binary-literal-said v b e = go (groups_in (drop at s)) refl
       where
-        L : IsLiteral s 64 at r v
-        L = literal-in s 64 at r v b is e
+        L : IsLiteral s 64 at r.end v
+        L = literal-in-said s 64 at r v b is e
 
         go : (g : Groups) → groups_in (drop at s) ≡ g → binary_rest s first at ≡ literal_then (literal_made v b) (binary_rest s first r.end)
-        go cut q = other (Wrong 6) (Literal v b) (λ z. omega arith) (sym (said-cut q) ∙ e)
+        go cut q = other (Wrong 6) (Literal v b) (λ z. omega arith) (sym (cut-is q) ∙ e)
         go (groups number many last) q =
-            let (token, end) = said number many last q in
+            let (token, end) = groups-are number many last q in
             there (groups number many last) q
             ∙ ap (λ (t : Token). after_token t first at (at + many) (binary_from s 64 (length s - (at + 1)) first (at + many)))
             (sym token ∙ e)
             ∙ ap (literal_then (literal_made v b)) (ap (λ (m : ℕ). binary_from s 64 (length s - (at + 1)) first m) (sym end)
             ∙ binary-fuel s 64 (length s - (at + 1)) (length s - r.end) first r.end (omega (arith, L.moves)) (omega arith))
+
+  -- the same by what the code reads
+  module _ (inside : at < length s) (r : GroupsRead) (is : r ≡ groups_read 64 at (groups_in (drop at s))) where
+    abbrev w : Said
+    w = groups_said 64 at (groups_in (drop at s))
+
+    pub binary-closing : (o : Option code_literal.Literal) → r.token ≡ Ok o → o ≡ None → binary_rest s first at ≡ closed [] first r.end
+    binary-closing o e f =
+        binary-closing-said inside w refl (closing-is s 64 at r is o e f) ∙ ap (closed [] first) (sym (end-is s 64 at r is))
+
+    pub binary-wrong : (k : ℕ) → r.token ≡ Err k → binary_rest s first at ≡ refused k (fault_place k first at)
+    binary-wrong k e = binary-wrong-said inside w refl k (wrong-is s 64 at r is k e)
+
+    pub binary-literal : (o : Option code_literal.Literal) (l : code_literal.Literal) → r.token ≡ Ok o → o ≡ Some l → binary_rest s first at
+        ≡ literal_then (literal_made l.variable l.positive) (binary_rest s first r.end)
+    binary-literal o l e f =
+        binary-literal-said inside w refl l.variable l.positive (literal-is s 64 at r is o l e f)
+        ∙ ap (λ (m : ℕ). literal_then (literal_made l.variable l.positive) (binary_rest s first m)) (sym (end-is s 64 at r is))

@@ -20,10 +20,12 @@ use Rattle.commands.specs.Commands.{clause_read, text_read, binary_from, binary_
 use Rattle.commands.specs.Inner.{command_for}
 use Rattle.commands.proofs.Reading.{Fault, ClauseIn, clause-in}
 use Rattle.commands.proofs.Onward.{BinaryFault, binary-clause-in}
+use Rattle.std.specs.Prelude.{Result, Ok, Err}
+use Rattle.dimacs.specs.declared.Refusal.{Refusal}
+use Rattle.dimacs.specs.Inner.{refusal_at}
 use Rattle.convert.specs.declared.Written.{Written}
-use Rattle.convert.specs.declared.Written.TheVariants.{Closed, Refused}
 use Rattle.convert.specs.Convert.{Lines, ending, line_then, lines_then, lines_from, lines_of, Conversion, refusing, converted_by}
-use Rattle.convert.specs.Inner.{Poured, poured, put_byte, put_all, finished, left_over, ClauseWritten, Opened, opened, text_next}
+use Rattle.convert.specs.Inner.{Poured, poured, put_byte, put_all, finished, left_over, written_to, ClauseWritten, Opened, opened, text_next}
 use Rattle.convert.specs.Inner.{binary_next}
 use Rattle.convert.proofs.Pouring.{put-none, put_one, put_two, left-start, left-line, left_end, long_as, written-opened}
 use Rattle.convert.proofs.Clauses.{text_rest, binary_rest}
@@ -31,7 +33,7 @@ use Rattle.convert.proofs.Clauses.{text_rest, binary_rest}
 -- ---- a clause with its opening
 
 module _ (line : Bool → List Literal → List ℕ) (prints : List Literal → List ℕ) (strikes : Bool) (w : Poured) (out : List ℕ) (body : Next)
-    (r : Written) where
+    (r : Result Written Refusal) where
   pub opened-none : ((ls : List Literal) → line strikes ls ≡ prints ls) → ClauseWritten prints w out body r →
       ClauseWritten (line strikes) w out body r
   opened-none splits W =
@@ -203,30 +205,6 @@ binary-lines-at s at inside = go (eqb (get_or s at 0) 0x61) refl (eqb (get_or s 
 
 -- ---- clause after clause
 
--- answers apart
-abbrev kind_of : Written → ℕ
-kind_of (Closed next many) = 0
-kind_of (Refused number place) = 1
-
-abbrev next_in : Written → ℕ
-next_in (Closed next many) = next
-next_in (Refused number place) = 0
-
-abbrev many_in : Written → ℕ
-many_in (Closed next many) = many
-many_in (Refused number place) = 0
-
-abbrev number_in : Written → ℕ
-number_in (Closed next many) = 0
-number_in (Refused number place) = number
-
-abbrev place_in : Written → ℕ
-place_in (Closed next many) = 0
-place_in (Refused number place) = place
-
-kinds : {A : Type 0} (x y : Written) → (kind_of x ≡ kind_of y → ⊥) → x ≡ y → A
-kinds x y ne e = absurd (ne (ap kind_of e))
-
 -- What is to be converted is what is left from a place on, with the output so far.
 pub record Remains (line : Bool → List Literal → List ℕ) (form : Form) (s : List ℕ) (whole : Conversion) (room : ℕ) (w : Poured) (at : ℕ) :
     Type 0 where
@@ -267,19 +245,17 @@ module _ (line : Bool → List Literal → List ℕ) (form : Form) (s : List ℕ
   remains-end is = first-line (ending 0 0) is R.steps R.enough R.left ∙ left_end line w (ending 0 0) refl refl
 
   module _ (onward : ℕ → ℕ) (strikes : Bool) (out : List ℕ) where
-    pub remains-refused : (x : Next) → LinesAt form s at onward strikes x → (number place : ℕ) →
-        ClauseWritten (line strikes) w out x (Refused number place)
-        → (whole ≡ refusing (length out) number place)
-    remains-refused (closed ls first next) A number place (many, is, _) =
-        kinds (Refused number place) (Closed next many) (λ z. omega arith) is
-    remains-refused ended A number place W = absurd W
-    remains-refused (refused k p) A number place (is, long) =
-        let same : number ≡ k = ap number_in is in
-        let there : place ≡ p = ap place_in is in
-        first-line (ending k p) A.0 R.steps R.enough R.left
+    pub remains-refused : (x : Next) → LinesAt form s at onward strikes x → (e : Refusal) →
+        ClauseWritten (line strikes) w out x (Err e)
+        → (whole ≡ refusing (length out) e.number e.place)
+    remains-refused (closed ls first next) A e (many, is, _) = cc
+    remains-refused ended A e W = absurd W
+    remains-refused (refused k p) A e (is, long) =
+        let same : e ≡ refusal_at k p = cc in
+        rw same
+        (first-line (ending k p) A.0 R.steps R.enough R.left
         ∙ ap (λ (b : Bool). cond b (finished (put_all w [])) (refusing (length w.output) k p)) (ne_eqb k 0 A.1)
-        ∙ ap (λ (m : ℕ). refusing m k p) (sym long) ∙ ap (λ (m : ℕ). refusing (length out) m p) (sym same)
-        ∙ ap (refusing (length out) number) (sym there)
+        ∙ ap (λ (m : ℕ). refusing m k p) (sym long))
 
     -- behind a clause
     pub record Behind (next many : ℕ) : Type 0 where
@@ -287,14 +263,13 @@ module _ (line : Bool → List Literal → List ℕ) (form : Form) (s : List ℕ
       pub moves : at < onward next
       pub remains : Remains line form s whole room (poured out many) (onward next)
 
-    pub remains-closed : (x : Next) → LinesAt form s at onward strikes x → (next many : ℕ) →
-        ClauseWritten (line strikes) w out x (Closed next many) → Behind next many
-    remains-closed (refused k p) A next many (is, _) = kinds (Closed next many) (Refused k p) (λ z. omega arith) is
-    remains-closed ended A next many W = absurd W
-    remains-closed (closed ls first end) A next many (m, is, bytes) =
-        let same : end ≡ next = sym (ap next_in is) in
-        let count : m ≡ many = sym (ap many_in is) in
-        subst (λ (e : ℕ). Behind e many) same (subst (Behind end) count (after R.steps R.enough R.left))
+    pub remains-closed : (x : Next) → LinesAt form s at onward strikes x → (r : Written) →
+        ClauseWritten (line strikes) w out x (Ok r) → Behind r.next r.many
+    remains-closed (refused k p) A r (is, _) = cc
+    remains-closed ended A r W = absurd W
+    remains-closed (closed ls first end) A r (m, is, bytes) =
+        let same : r ≡ written_to end m = cc in
+        rw same (after R.steps R.enough R.left)
       where
         after : (k : ℕ) → length s < at + k → whole ≡ left_over line w (lines_from k form s at) → Behind end m
         after zero enough left = absurd (omega (arith, R.within))

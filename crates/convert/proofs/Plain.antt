@@ -12,13 +12,11 @@ use lib.Dec.{eqb, ltb, leb}
 use borrow.Author.Tests.{lt-ltb, le-ltb, eqb-true, eqb-false, ltb-true, ltb-false, leb-true}
 use Rattle.meaning.specs.Operations as meaning
 use Rattle.meaning.proofs.Booleans.{t≢f, and_both}
-use Rattle.dimacs.specs.declared.Token.{Token}
-use Rattle.dimacs.specs.declared.Token.TheVariants.{Closing, Literal, Wrong}
+use Rattle.dimacs.specs.Numbers.{Token, Closing, Literal, Wrong}
 use Rattle.dimacs.specs.Text.{is_token, token_end, between}
 use Rattle.dimacs.specs.Header.{is_word}
 use Rattle.dimacs.specs.Clauses.{Next, closed, ended, refused, literal_then, after_token, clause_from}
-use Rattle.dimacs.specs.Numbers.{is_digit, all_digits, is_zero, is_digits, is_number, has_minus, unsigned, value_after, value_of_digits}
-use Rattle.dimacs.specs.Numbers.{token_of}
+use Rattle.dimacs.specs.Numbers.{is_digit, all_digits, is_zero, is_digits, is_number, has_minus, unsigned, value_after, value_of_digits, token_of}
 use Rattle.dimacs.proofs.Cases.{by}
 use Rattle.dimacs.proofs.Digits.{digit-least, digit-most}
 use Rattle.dimacs.proofs.Runs.{past-most}

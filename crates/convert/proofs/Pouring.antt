@@ -11,10 +11,12 @@ use lib.Dec.{eqb, leb}
 use borrow.Author.Tests.{lt-ltb, le-ltb, le-leb, leb-true, leb-false}
 use Rattle.meaning.specs.Operations.{Literal}
 use Rattle.dimacs.specs.Clauses.{Next, closed, ended, refused, literal_then}
+use Rattle.std.specs.Prelude.{Result, Ok, Err}
+use Rattle.dimacs.specs.declared.Refusal.{Refusal}
+use Rattle.dimacs.specs.Inner.{refusal_at}
 use Rattle.convert.specs.declared.Written.{Written}
-use Rattle.convert.specs.declared.Written.TheVariants.{Closed, Refused}
 use Rattle.convert.specs.Convert.{Lines, line_then, digits_of, code_of, groups_of, printed, Conversion, refusing, holding, converted_by}
-use Rattle.convert.specs.Inner.{literal_made, spaced, Poured, poured, put_byte, put_all, finished, left_over, ClauseWritten}
+use Rattle.convert.specs.Inner.{literal_made, spaced, Poured, poured, put_byte, put_all, finished, left_over, written_to, ClauseWritten}
 
 -- ---- bytes put
 
@@ -168,7 +170,7 @@ left_end line w r none read = rw (none, read) refl
 module _ (prints : List Literal → List ℕ) (w : Poured) where
   -- a literal's bytes are put before the rest of the clause
   pub written-literal : (l : Literal) (piece : List ℕ) → ((ls : List Literal) → prints (l ∷ ls) ≡ piece ++ prints ls) →
-      (out : List ℕ) (x : Next) (r : Written)
+      (out : List ℕ) (x : Next) (r : Result Written Refusal)
       → ClauseWritten prints (put_all w piece) out x r → ClauseWritten prints w out (literal_then l x) r
   written-literal l piece splits out (closed ls first next) r (many, is, bytes) =
       (many, is, bytes ∙ sym (put-append w piece (prints ls)) ∙ ap (put_all w) (sym (splits ls)))
@@ -177,7 +179,7 @@ module _ (prints : List Literal → List ℕ) (w : Poured) where
 
 -- What is known of a clause once it is known of what is left of it.
 abbrev pub Leads : (List Literal → List ℕ) → Poured → Next → Poured → Next → Type 0
-Leads prints w x w' y = (out : List ℕ) (r : Written) → ClauseWritten prints w' out y r → ClauseWritten prints w out x r
+Leads prints w x w' y = (out : List ℕ) (r : Result Written Refusal) → ClauseWritten prints w' out y r → ClauseWritten prints w out x r
 
 module _ (prints : List Literal → List ℕ) (w₀ : Poured) (x₀ : Next) (w : Poured) (x : Next) (L : Leads prints w₀ x₀ w x) where
   pub leads-literal : (l : Literal) (piece : List ℕ) (y : Next) → ((ls : List Literal) → prints (l ∷ ls) ≡ piece ++ prints ls) → x
@@ -188,14 +190,14 @@ module _ (prints : List Literal → List ℕ) (w₀ : Poured) (x₀ : Next) (w :
       (written-literal prints w l piece splits out y r (subst (λ (v : Poured). ClauseWritten prints v out y r) is W)))
 
   pub leads-closed : (first next many : ℕ) (out : List ℕ) → x ≡ closed [] first next → poured out many ≡ put_all w (prints []) →
-      ClauseWritten prints w₀ out x₀ (Closed next many)
-  leads-closed first next many out e is = L out (Closed next many)
-      (subst (λ (z : Next). ClauseWritten prints w out z (Closed next many)) (sym e) (many, refl, is))
+      ClauseWritten prints w₀ out x₀ (Ok (written_to next many))
+  leads-closed first next many out e is = L out (Ok (written_to next many))
+      (subst (λ (z : Next). ClauseWritten prints w out z (Ok (written_to next many))) (sym e) (many, refl, is))
 
   pub leads-refused : (number place : ℕ) (out : List ℕ) → x ≡ refused number place → length out ≡ length w.output →
-      ClauseWritten prints w₀ out x₀ (Refused number place)
-  leads-refused number place out e long = L out (Refused number place)
-      (subst (λ (z : Next). ClauseWritten prints w out z (Refused number place)) (sym e) (refl, long))
+      ClauseWritten prints w₀ out x₀ (Err (refusal_at number place))
+  leads-refused number place out e long = L out (Err (refusal_at number place))
+      (subst (λ (z : Next). ClauseWritten prints w out z (Err (refusal_at number place))) (sym e) (refl, long))
 
 -- the places of an output stay
 pub long_as : (w w' : Poured) (bs : List ℕ) → w' ≡ put_all w bs → length w'.output ≡ length w.output
@@ -203,7 +205,7 @@ long_as w w' bs is = ap (λ (v : Poured). length v.output) is ∙ put-length w b
 
 -- an opening before a clause
 pub written-opened : (prints whole : List Literal → List ℕ) (opening : List ℕ) (w : Poured) →
-    ((ls : List Literal) → whole ls ≡ opening ++ prints ls) → (out : List ℕ) (x : Next) (r : Written)
+    ((ls : List Literal) → whole ls ≡ opening ++ prints ls) → (out : List ℕ) (x : Next) (r : Result Written Refusal)
     → ClauseWritten prints (put_all w opening) out x r → ClauseWritten whole w out x r
 written-opened prints whole opening w splits out (closed ls first next) r (many, is, bytes) =
     (many, is, bytes ∙ sym (put-append w opening (prints ls)) ∙ ap (put_all w) (sym (splits ls)))

@@ -13,9 +13,8 @@ use lib.Dec.{eqb, ltb}
 use borrow.Author.Tests.{eq-eqb, ne_eqb, lt-ltb, le-ltb, le-leb, ltb-true, ltb-false}
 use Rattle.meaning.specs.Operations as meaning
 use Rattle.meaning.proofs.Booleans.{and-false}
-use Rattle.dimacs.specs.declared.Token.TheVariants.{Literal}
 use Rattle.dimacs.specs.Text.{is_parting, is_token, run, past, token_end, line_end, is_comment, between_from, between}
-use Rattle.dimacs.specs.Numbers.{is_digit, is_digits, is_zero, all_digits, is_number, value_after, value_of_digits, token_of}
+use Rattle.dimacs.specs.Numbers.{Literal, is_digit, is_digits, is_zero, all_digits, is_number, value_after, value_of_digits, token_of}
 use Rattle.dimacs.specs.Header.{is_word}
 use Rattle.dimacs.specs.Clauses.{closed, clause_from}
 use Rattle.commands.specs.declared.Form.TheVariants.{Text}

@@ -5,8 +5,10 @@ use Rattle.dimacs.specs.Text.{between_from, between}
 use Rattle.dimacs.specs.Header.{is_word}
 use Rattle.dimacs.specs.Clauses.{Next, closed, ended, refused, clause_from}
 use Rattle.commands.specs.Commands.{binary_from}
+use Rattle.std.specs.Prelude.{Result, Ok, Err}
+use Rattle.dimacs.specs.declared.Refusal.{Refusal}
+use Rattle.dimacs.specs.Inner.{refusal_at}
 use Rattle.convert.specs.declared.Written.{Written}
-use Rattle.convert.specs.declared.Written.TheVariants.{Closed, Refused}
 use Rattle.convert.specs.Convert.{Lines, token_text, printed, Conversion, refusing}
 
 abbrev pub literal_made : ℕ → Bool → Literal
@@ -47,10 +49,13 @@ left_over line w r = cond (eqb r.number 0) (finished (put_all w (printed line r.
 
 -- ---- a clause
 
+abbrev pub written_to : ℕ → ℕ → Written
+written_to next many = record { next = next; many = many }
+
 -- What is left after a clause, by what its reader says of it: the bytes that it prints, or its refusal.
-abbrev pub ClauseWritten : (List Literal → List ℕ) → Poured → List ℕ → Next → Written → Type 0
-ClauseWritten prints w out (closed ls first next) r = (many : ℕ) × (r ≡ Closed next many) × (poured out many ≡ put_all w (prints ls))
-ClauseWritten prints w out (refused number place) r = (r ≡ Refused number place) × (length out ≡ length w.output)
+abbrev pub ClauseWritten : (List Literal → List ℕ) → Poured → List ℕ → Next → Result Written Refusal → Type 0
+ClauseWritten prints w out (closed ls first next) r = (many : ℕ) × (r ≡ Ok (written_to next many)) × (poured out many ≡ put_all w (prints ls))
+ClauseWritten prints w out (refused number place) r = (r ≡ Err (refusal_at number place)) × (length out ≡ length w.output)
 ClauseWritten prints w out ended r = ⊥
 
 -- A clause that stands next: struck out or added, and what its reader says of it.
@@ -61,7 +66,7 @@ pub record Opened : Type 0 where
 abbrev pub opened : Bool → Next → Opened
 opened strikes body = record { strikes = strikes; body = body }
 
-abbrev pub LineWritten : (Bool → List Literal → List ℕ) → Poured → List ℕ → Opened → Written → Type 0
+abbrev pub LineWritten : (Bool → List Literal → List ℕ) → Poured → List ℕ → Opened → Result Written Refusal → Type 0
 LineWritten line w out x r = ClauseWritten (line x.strikes) w out x.body r
 
 unfoldable pub text_next : List ℕ → ℕ → Opened

@@ -5,7 +5,7 @@ ghost use Rattle.convert.specs.Convert.{conversion_of, digits_of, text_literals,
 ghost use Rattle.convert.specs.Inner.{poured, put_all, literal_made, spaced, ClauseWritten, LineWritten, binary_next};
 
 use crate::{Converted, Written, output};
-use dimacs::Token;
+use dimacs::{Literal, Refusal};
 
 // The minus of a literal that has one.
 fn put_sign(out: &mut [u8], many: usize, positive: bool) -> usize
@@ -30,17 +30,24 @@ fn put_digits(out: &mut [u8], many: usize, variable: u8) -> usize
 }
 
 // A literal and a space.
-fn put_literal(out: &mut [u8], many: usize, variable: u8, positive: bool) -> usize
-    requires { variable ≤ 64 }
-    ensures { poured out.new result ≡ put_all (poured out.old many) (spaced (literal_made variable positive)) }
+fn put_literal(out: &mut [u8], many: usize, literal: Literal) -> usize
+    requires { literal.variable ≤ 64 }
+    ensures { poured out.new result
+        ≡ put_all (poured out.old many) (spaced (literal_made literal.variable literal.positive)) }
 {
-    let signed = put_sign(out, many, positive);
-    let written = put_digits(out, signed, variable);
+    let signed = put_sign(out, many, literal.positive);
+    let written = put_digits(out, signed, literal.variable);
     output::put(out, written, 32)
 }
 
 // The clause of the literals from `from` on, up to its zero byte; its opening byte is at `first`.
-fn clause_literals(binary: &[u8], first: usize, from: usize, out: &mut [u8], many: usize) -> Written
+fn clause_literals(
+    binary: &[u8],
+    first: usize,
+    from: usize,
+    out: &mut [u8],
+    many: usize,
+) -> Result<Written, Refusal>
     requires { from ≤ length binary.now }
     ensures { ClauseWritten text_literals (poured out.old many) out.new
         (binary_from binary.now 64 (length binary.now - from) first from) result }
@@ -52,33 +59,33 @@ fn clause_literals(binary: &[u8], first: usize, from: usize, out: &mut [u8], man
         let end = groups.end;
         let token = groups.token;
         match token {
-            Token::Closing => {
+            Ok(None) => {
                 let zero = output::put(out, bytes, 48);
-                return Written::Closed {
+                return Ok(Written {
                     next: end,
                     many: output::put(out, zero, 10),
-                };
+                });
             }
-            Token::Wrong(number) => {
-                return Written::Refused {
+            Err(number) => {
+                return Err(Refusal {
                     number,
                     place: commands::fault_place(number, first, at),
-                };
+                });
             }
-            Token::Literal { variable, positive } => {
-                bytes = put_literal(out, bytes, variable, positive);
+            Ok(Some(l)) => {
+                bytes = put_literal(out, bytes, l);
                 at = end;
             }
         }
     }
-    Written::Refused {
+    Err(Refusal {
         number: 6,
         place: first,
-    }
+    })
 }
 
 // The clause that stands next. 97 is `61`, 100 is `64` and `d`.
-fn clause_line(binary: &[u8], at: usize, out: &mut [u8], many: usize) -> Written
+fn clause_line(binary: &[u8], at: usize, out: &mut [u8], many: usize) -> Result<Written, Refusal>
     requires { at < length binary.now }
     ensures { LineWritten text_line (poured out.old many) out.new
         (binary_next binary.now at) result }
@@ -92,10 +99,10 @@ fn clause_line(binary: &[u8], at: usize, out: &mut [u8], many: usize) -> Written
         let opened = output::put(out, letter, 32);
         return clause_literals(binary, at, at + 1, out, opened);
     }
-    Written::Refused {
+    Err(Refusal {
         number: 9,
         place: at,
-    }
+    })
 }
 
 // The binary proof as text; or 4, 6, 9, 31, 7.
@@ -107,12 +114,12 @@ pub fn to_text(binary: &[u8], out: &mut [u8]) -> Converted
     let mut many: usize = 0;
     while at < binary.len() {
         match clause_line(binary, at, out, many) {
-            Written::Closed { next, many: more } => {
-                at = next;
-                many = more;
+            Ok(written) => {
+                at = written.next;
+                many = written.many;
             }
-            Written::Refused { number, place } => {
-                return output::refuse(out, number, place);
+            Err(refusal) => {
+                return output::refuse(out, refusal.number, refusal.place);
             }
         }
     }

@@ -5,26 +5,26 @@ ghost use Rattle.convert.specs.Convert.{conversion_of, code_of, groups_of, token
 ghost use Rattle.convert.specs.Inner.{poured, put_all, literal_made, ClauseWritten, LineWritten, text_next};
 
 use crate::{Converted, Written, output};
-use dimacs::Token;
+use dimacs::{Literal, Refusal};
 
 // The number of a literal.
-fn code_of(variable: u8, positive: bool) -> u8
-    requires { variable ≤ 64 }
-    ensures { result ≡ code_of (literal_made variable positive) }
+fn code_of(literal: Literal) -> u8
+    requires { literal.variable ≤ 64 }
+    ensures { result ≡ code_of (literal_made literal.variable literal.positive) }
 {
-    if positive {
-        return 2 * variable;
+    if literal.positive {
+        return 2 * literal.variable;
     }
-    2 * variable + 1
+    2 * literal.variable + 1
 }
 
 // A literal's groups: one, or two of which the second is 1.
-fn put_groups(out: &mut [u8], many: usize, variable: u8, positive: bool) -> usize
-    requires { variable ≤ 64 }
+fn put_groups(out: &mut [u8], many: usize, literal: Literal) -> usize
+    requires { literal.variable ≤ 64 }
     ensures { poured out.new result
-        ≡ put_all (poured out.old many) (groups_of (code_of (literal_made variable positive))) }
+        ≡ put_all (poured out.old many) (groups_of (code_of (literal_made literal.variable literal.positive))) }
 {
-    let number = code_of(variable, positive);
+    let number = code_of(literal);
     if number < 128 {
         return output::put(out, many, number);
     }
@@ -33,23 +33,21 @@ fn put_groups(out: &mut [u8], many: usize, variable: u8, positive: bool) -> usiz
 }
 
 // The bytes of a literal's token: a number has no leading 0.
-fn token_length(variable: u8, positive: bool) -> usize
-    ensures { result ≡ length (token_text (literal_made variable positive)) }
+fn token_length(literal: Literal) -> usize
+    ensures { result ≡ length (token_text (literal_made literal.variable literal.positive)) }
 {
-    if variable < 10 {
-        if positive {
-            return 1;
-        }
-        return 2;
-    }
-    if positive {
-        return 2;
-    }
-    3
+    let digits = if literal.variable < 10 { 1 } else { 2 };
+    if literal.positive { digits } else { digits + 1 }
 }
 
 // The clause of the tokens from `from` on, up to its closing 0; its command's first byte is at `first`.
-fn clause_literals(text: &[u8], first: usize, from: usize, out: &mut [u8], many: usize) -> Written
+fn clause_literals(
+    text: &[u8],
+    first: usize,
+    from: usize,
+    out: &mut [u8],
+    many: usize,
+) -> Result<Written, Refusal>
     requires { from ≤ length text.now }
     ensures { ClauseWritten binary_literals (poured out.old many) out.new
         (clause_from text.now 64 (length text.now - from) first from) result }
@@ -58,30 +56,30 @@ fn clause_literals(text: &[u8], first: usize, from: usize, out: &mut [u8], many:
     let mut bytes = many;
     while at < text.len() {
         match dimacs::token_at(text, at, 64) {
-            Token::Closing => {
-                return Written::Closed {
+            Ok(None) => {
+                return Ok(Written {
                     next: at + 1,
                     many: output::put(out, bytes, 0),
-                };
+                });
             }
-            Token::Wrong(number) => {
-                return Written::Refused { number, place: at };
+            Err(number) => {
+                return Err(Refusal { number, place: at });
             }
-            Token::Literal { variable, positive } => {
-                bytes = put_groups(out, bytes, variable, positive);
-                let end = at + token_length(variable, positive);
+            Ok(Some(l)) => {
+                bytes = put_groups(out, bytes, l);
+                let end = at + token_length(l);
                 at = dimacs::skip_between(text, end);
             }
         }
     }
-    Written::Refused {
+    Err(Refusal {
         number: 6,
         place: first,
-    }
+    })
 }
 
 // The clause that stands next, with its opening byte. 100 is `d` and `64`, 97 is `61`.
-fn clause_line(text: &[u8], at: usize, out: &mut [u8], many: usize) -> Written
+fn clause_line(text: &[u8], at: usize, out: &mut [u8], many: usize) -> Result<Written, Refusal>
     requires { at < length text.now }
     ensures { LineWritten binary_line (poured out.old many) out.new
         (text_next text.now at) result }
@@ -104,12 +102,12 @@ pub fn to_binary(text: &[u8], out: &mut [u8]) -> Converted
     let mut many: usize = 0;
     while at < text.len() {
         match clause_line(text, at, out, many) {
-            Written::Closed { next, many: more } => {
-                at = dimacs::skip_between(text, next);
-                many = more;
+            Ok(written) => {
+                at = dimacs::skip_between(text, written.next);
+                many = written.many;
             }
-            Written::Refused { number, place } => {
-                return output::refuse(out, number, place);
+            Err(refusal) => {
+                return output::refuse(out, refusal.number, refusal.place);
             }
         }
     }

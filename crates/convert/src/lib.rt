@@ -8,7 +8,8 @@ mod output;
 pub use from_binary::to_text;
 pub use from_text::to_binary;
 
-// A conversion's number, its place (0 if not refused) and the result's length.
+// A conversion's number, its place (0 if not refused) and the result's length. It is no Result: C takes it from `cablesalak_to_binary` and
+// `cablesalak_to_text`.
 #[repr(C)]
 #[derive(Clone, Copy)]
 pub struct Converted {
@@ -17,9 +18,9 @@ pub struct Converted {
     pub length: usize,
 }
 
-// What the clause that stands next comes to: the place behind it and the bytes put so far; or a number and a place.
+// A clause that is written: the place behind it and the bytes put so far.
 #[derive(Clone, Copy)]
-pub enum Written {
-    Closed { next: usize, many: usize },
-    Refused { number: u8, place: usize },
+pub struct Written {
+    pub next: usize,
+    pub many: usize,
 }

@@ -14,13 +14,9 @@ use borrow.Author.Tests.{le-leb, lt-leb, ltb-true, ltb-false, leb-true, leb-fals
 use Rattle.meaning.specs.Operations as meaning
 use Rattle.table.specs.Nodes.{Node, Placing, full, placed, place}
 use Rattle.table.specs.Columns.{Columns}
-use Rattle.dimacs.specs.declared.Header.{Header}
-use Rattle.dimacs.specs.declared.Header.TheVariants.{Proper, Improper}
-use Rattle.dimacs.specs.declared.Token.{Token}
-use Rattle.dimacs.specs.declared.Token.TheVariants.{Closing, Literal, Wrong}
 use Rattle.dimacs.specs.Text.{token_end, between}
-use Rattle.dimacs.specs.Numbers.{is_zero, is_number, has_minus, unsigned, value_of_digits, token_of}
-use Rattle.dimacs.specs.Header.{is_word, header}
+use Rattle.dimacs.specs.Numbers.{Token, Closing, Literal, Wrong, is_zero, is_number, has_minus, unsigned, value_of_digits, token_of}
+use Rattle.dimacs.specs.Header.{Header, Proper, Improper, is_word, header}
 use Rattle.dimacs.specs.Clauses.{Next, closed, ended, refused, literal_then, after_token, clause_from, Reading, clause, complete, refusal}
 use Rattle.dimacs.specs.Clauses.{clauses_from}
 use Rattle.dimacs.proofs.Cases.{by}

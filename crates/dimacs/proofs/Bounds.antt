@@ -10,13 +10,9 @@ use lib.Seq.{slice}
 use lib.Dec.{ltb, leb}
 use borrow.Author.Tests.{ltb-true, ltb-false, leb-true}
 use Rattle.meaning.specs.Literals.{OfVariables}
-use Rattle.dimacs.specs.declared.Header.{Header}
-use Rattle.dimacs.specs.declared.Header.TheVariants.{Proper, Improper}
-use Rattle.dimacs.specs.declared.Token.{Token}
-use Rattle.dimacs.specs.declared.Token.TheVariants.{Closing, Literal, Wrong}
 use Rattle.dimacs.specs.Text.{is_token, is_space, is_line, token_end, line_end, between}
-use Rattle.dimacs.specs.Numbers.{value_of_digits}
-use Rattle.dimacs.specs.Header.{judged_from, next_word, word, is_header, header_at, header}
+use Rattle.dimacs.specs.Numbers.{Token, Closing, Literal, Wrong, value_of_digits}
+use Rattle.dimacs.specs.Header.{Header, Proper, Improper, judged_from, next_word, word, is_header, header_at, header}
 use Rattle.dimacs.specs.Clauses.{Next, closed, ended, refused, literal_then, after_token, clause_from, clause_at, next_clause}
 use Rattle.dimacs.proofs.Cases.{by, clash}
 use Rattle.dimacs.proofs.Runs.{past-most}

@@ -3,14 +3,14 @@
 use mathlib.Core.Path.{◌≡◌, refl, ap, sym, ◌∙◌}
 use mathlib.Core.Bool.{true, false, cond}
 use mathlib.Core.List.{List, [], ◌∷◌}
-use Prim.Native.Nat.{ℕ, suc, ◌+◌, ◌-◌, ◌*◌, ◌≤◌, ◌<◌}
+use Prim.Native.Nat.{ℕ, suc, ◌+◌, ◌-◌, ◌*◌, ◌≤◌, ◌<◌, min}
 use native.Mathlib.Omega.{arith}
 use native.Mathlib.Numerals.{add-one}
 use lib.ListN.{length, get_or}
 use lib.Seq.{slice, slice_empty, slice-cons}
 use lib.Dec.{ltb, leb, eqb}
-use borrow.Author.Tests.{ltb-true, lt-ltb, eq-eqb, ne_eqb, eqb-true, leb-true}
-use Rattle.dimacs.specs.declared.numbers.Natural.TheVariants.{Value, Improper}
+use borrow.Author.Tests.{ltb-true, ltb-false, lt-ltb, eq-eqb, ne_eqb, eqb-true, leb-true}
+use Rattle.std.specs.Prelude.{None, Some}
 use Rattle.dimacs.specs.Numbers.{is_digit, all_digits, is_zero, is_digits, is_natural, value_after, value_of_digits}
 use Rattle.dimacs.specs.Inner.{capped, digits_after, natural_of}
 use Rattle.dimacs.proofs.Cases.{by, clash}
@@ -37,6 +37,10 @@ capped-over v h = rw (lt-ltb 1024 v h)
 pub capped-under : (v : ℕ) → v ≤ 1025 → capped v ≡ v
 capped-under v h = by (ltb 1024 v) (λ t. rw t (let q : 1024 < v = ltb-true 1024 v t in omega arith)) (λ f. rw f)
 
+pub capped-min : (m v : ℕ) → m ≡ v → capped v ≡ min m 1025
+capped-min m v e = by (ltb 1024 v) (λ t. let q : 1024 < v = ltb-true 1024 v t in rw t (omega arith)) (λ f.
+    let q : v ≤ 1024 = ltb-false 1024 v f in rw f (omega arith))
+
 capped-step : (m d : ℕ) → capped (capped m * 10 + d) ≡ capped (m * 10 + d)
 capped-step m d =
     by (ltb 1024 m)
@@ -54,11 +58,11 @@ capped-after (b ∷ bs) m =
 -- ---- digits from `at` to `to`
 
 module _ (s : List ℕ) (at to n : ℕ) where
-  pub digits-end : at ≡ to → n ≤ 1025 → digits_after n (slice at to s) ≡ Value n
+  pub digits-end : at ≡ to → n ≤ 1025 → digits_after n (slice at to s) ≡ Some n
   unfolding all_digits value_after
-  digits-end e h = rw (e, slice_empty to s) (ap Value (capped-under n h))
+  digits-end e h = rw (e, slice_empty to s) (ap Some (capped-under n h))
 
-  pub digits-stop : at < to → to ≤ length s → is_digit (get_or s at 0) ≡ false → digits_after n (slice at to s) ≡ Improper
+  pub digits-stop : at < to → to ≤ length s → is_digit (get_or s at 0) ≡ false → digits_after n (slice at to s) ≡ None
   unfolding all_digits value_after
   digits-stop h k e = rw (slice-cons at to s 0 h k, e)
 
@@ -67,12 +71,12 @@ module _ (s : List ℕ) (at to n : ℕ) where
   unfolding all_digits value_after
   digits-go m h k e is =
       rw (slice-cons at to s 0 h k, e, add-one, is)
-      (ap (λ (v : ℕ). cond (all_digits (slice (suc at) to s)) (Value v) Improper)
+      (ap (λ (v : ℕ). cond (all_digits (slice (suc at) to s)) (Some v) None)
       (sym (capped-after (slice (suc at) to s) (n * 10 + (get_or s at 0 - 48)))))
 
 -- ---- a number with no minus
 
-natural-none : natural_of [] ≡ Improper
+natural-none : natural_of [] ≡ None
 unfolding is_natural
 natural-none = refl
 
@@ -85,31 +89,31 @@ natural-digits : (b : ℕ) (bs : List ℕ) → eqb b 48 ≡ false → natural_of
 unfolding is_natural is_digits
 natural-digits b bs e = rw (zero-not b bs e, e)
 
-natural-zero : (b : ℕ) → b ≡ 48 → natural_of (b ∷ []) ≡ Value 0
+natural-zero : (b : ℕ) → b ≡ 48 → natural_of (b ∷ []) ≡ Some 0
 unfolding is_natural value_after
 natural-zero b e = rw e
 
-natural-zeros : (b c : ℕ) (bs : List ℕ) → b ≡ 48 → natural_of (b ∷ c ∷ bs) ≡ Improper
+natural-zeros : (b c : ℕ) (bs : List ℕ) → b ≡ 48 → natural_of (b ∷ c ∷ bs) ≡ None
 unfolding is_natural
 natural-zeros b c bs e = rw e
 
 -- The same from `from` to `to`.
 module _ (s : List ℕ) (from to : ℕ) (inside : to ≤ length s) where
-  pub natural-empty : from ≡ to → natural_of (slice from to s) ≡ Improper
+  pub natural-empty : from ≡ to → natural_of (slice from to s) ≡ None
   natural-empty e = rw (e, slice_empty to s) natural-none
 
   pub natural-other : from < to → (get_or s from 0 ≡ 48 → ⊥) → natural_of (slice from to s) ≡ digits_after 0 (slice from to s)
   natural-other h e = rw (slice-cons from to s 0 h inside)
       (natural-digits (get_or s from 0) (slice (suc from) to s) (ne_eqb (get_or s from 0) 48 e))
 
-  pub natural-alone : to - from ≡ 1 → get_or s from 0 ≡ 48 → natural_of (slice from to s) ≡ Value 0
+  pub natural-alone : to - from ≡ 1 → get_or s from 0 ≡ 48 → natural_of (slice from to s) ≡ Some 0
   natural-alone h e =
       let q : suc from ≡ to = omega arith in
       let l : from < to = omega arith in
       let none : slice (suc from) to s ≡ [] = rw q (slice_empty to s) in
       rw (slice-cons from to s 0 l inside, none) (natural-zero (get_or s from 0) e)
 
-  pub natural-longer : from < to → (to - from ≡ 1 → ⊥) → get_or s from 0 ≡ 48 → natural_of (slice from to s) ≡ Improper
+  pub natural-longer : from < to → (to - from ≡ 1 → ⊥) → get_or s from 0 ≡ 48 → natural_of (slice from to s) ≡ None
   natural-longer h more e =
       let l : suc from < to = omega (arith, more) in
       rw (slice-cons from to s 0 h inside, slice-cons (suc from) to s 0 l inside)

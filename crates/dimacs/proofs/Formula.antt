@@ -9,12 +9,13 @@ use lib.Dec.{ltb}
 use Rattle.meaning.specs.Operations as meaning
 use Rattle.words.specs.Sets.{literals_of}
 use Rattle.dimacs.specs.declared.ClosedClause.{ClosedClause}
-use Rattle.dimacs.specs.declared.Clause.TheVariants.{Closed, End, Refused}
-use Rattle.dimacs.specs.declared.Header.TheVariants.{Proper, Improper}
+use Rattle.dimacs.specs.declared.Refusal.{Refusal}
+use Rattle.dimacs.specs.declared.Header as code_header
+use Rattle.std.specs.Prelude.{None, Some, Ok, Err}
 use Rattle.dimacs.specs.Text.{between}
-use Rattle.dimacs.specs.Header.{header}
+use Rattle.dimacs.specs.Header.{Header, Proper, Improper, header}
 use Rattle.dimacs.specs.Clauses.{Next, closed, ended, refused, clause, complete, refusal, next_clause, clauses_from, formula}
-use Rattle.dimacs.specs.Inner.{clause_after, clause_of}
+use Rattle.dimacs.specs.Inner.{clause_of, header_read}
 
 -- ---- results
 
@@ -24,8 +25,8 @@ pub record IsClosed (x : Next) (w : ClosedClause) : Type 0 where
   pub is : x ≡ closed list w.first w.next
   pub literals : w.literals ≡ literals_of list
 
-pub closed_is : (x : Next) (w : ClosedClause) → clause_of x ≡ Closed w → IsClosed x w
-unfolding clause_after
+pub closed_is : (x : Next) (w : ClosedClause) → clause_of x ≡ Ok (Some w) → IsClosed x w
+unfolding clause_of
 closed_is (closed ls first next) w e =
     let q : record { literals = literals_of ls; first = first; next = next } ≡ w = cc in
     record {
@@ -36,17 +37,26 @@ closed_is (closed ls first next) w e =
 closed_is ended w e = let z : ◌≡◌ {A = ℕ} 0 1 = cc in absurd (omega arith)
 closed_is (refused number place) w e = let z : ◌≡◌ {A = ℕ} 0 1 = cc in absurd (omega arith)
 
-pub ended_is : (x : Next) → clause_of x ≡ End → x ≡ ended
-unfolding clause_after
+pub ended_is : (x : Next) → clause_of x ≡ Ok None → x ≡ ended
+unfolding clause_of
 ended_is (closed ls first next) e = let z : ◌≡◌ {A = ℕ} 0 1 = cc in absurd (omega arith)
 ended_is ended e = refl
 ended_is (refused number place) e = let z : ◌≡◌ {A = ℕ} 0 1 = cc in absurd (omega arith)
 
-pub refused-is : (x : Next) (number place : ℕ) → clause_of x ≡ Refused number place → x ≡ refused number place
-unfolding clause_after
-refused-is (closed ls first next) number place e = let z : ◌≡◌ {A = ℕ} 0 1 = cc in absurd (omega arith)
-refused-is ended number place e = let z : ◌≡◌ {A = ℕ} 0 1 = cc in absurd (omega arith)
-refused-is (refused k p) number place e = cc
+pub refused-is : (x : Next) (e : Refusal) → clause_of x ≡ Err e → x ≡ refused e.number e.place
+unfolding clause_of
+refused-is (closed ls first next) r e = let z : ◌≡◌ {A = ℕ} 0 1 = cc in absurd (omega arith)
+refused-is ended r e = let z : ◌≡◌ {A = ℕ} 0 1 = cc in absurd (omega arith)
+refused-is (refused k p) r e = let q : record { number = k; place = p } ≡ r = cc in rw (sym q)
+
+-- The header x is proper, or refused, as the code's answer says.
+pub header-ok : (x : Header) (h : code_header.Header) → header_read x ≡ Ok h → x ≡ Proper h.variables h.clauses h.end
+header-ok (Proper n many end) h e = let q : record { variables = n; clauses = many; end = end } ≡ h = cc in rw (sym q)
+header-ok (Improper number place) h e = cc
+
+pub header-err : (x : Header) (r : Refusal) → header_read x ≡ Err r → x ≡ Improper r.number r.place
+header-err (Proper n many end) r e = cc
+header-err (Improper number place) r e = let q : record { number = number; place = place } ≡ r = cc in rw (sym q)
 
 -- ---- the reading
 

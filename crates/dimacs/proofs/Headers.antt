@@ -3,30 +3,27 @@
 use mathlib.Core.Path.{◌≡◌, refl, sym, ◌∙◌}
 use mathlib.Core.Bool.{Bool, true, false, cond, ◌&&◌}
 use mathlib.Core.List.{List, [], ◌∷◌}
-use Prim.Native.Nat.{ℕ, ◌-◌, ◌≤◌, ◌<◌}
+use Prim.Native.Nat.{ℕ, ◌≤◌, ◌<◌}
 use native.Mathlib.Omega.{arith}
 use lib.Dec.{ltb, leb}
 use borrow.Author.Tests.{lt-ltb, le-ltb, leb-true, leb-false}
-use Rattle.dimacs.specs.declared.numbers.Natural.{Natural}
-use Rattle.dimacs.specs.declared.numbers.Natural.TheVariants.{Value, Improper as NoNumber}
-use Rattle.dimacs.specs.declared.Header.{Header}
-use Rattle.dimacs.specs.declared.Header.TheVariants.{Proper, Improper}
+use Rattle.std.specs.Prelude.{Option, None, Some}
 use Rattle.dimacs.specs.Text.{line_end}
 use Rattle.dimacs.specs.Numbers.{is_natural, value_of_digits}
 use Rattle.dimacs.specs.Inner.{capped, natural_of}
-use Rattle.dimacs.specs.Header.{next_word, word, is_word, ends_line, is_header, header_at}
+use Rattle.dimacs.specs.Header.{Header, Proper, Improper, next_word, word, is_word, ends_line, is_header, header_at}
 use Rattle.dimacs.proofs.Cases.{by}
 use Rattle.dimacs.proofs.Digits.{capped-over, capped-under}
 
 abbrev pub within : ℕ → ℕ → ℕ → ℕ → Header
 within v c at end = cond (ltb 64 v) (Improper 2 at) (cond (ltb 1024 c) (Improper 2 at) (Proper v c end))
 
-abbrev pub numbered : Natural → Natural → Bool → ℕ → ℕ → Header
-numbered NoNumber c ends at end = Improper 1 at
-numbered (Value v) NoNumber ends at end = Improper 1 at
-numbered (Value v) (Value c) ends at end = cond ends (within v c at end) (Improper 1 at)
+abbrev pub numbered : Option ℕ → Option ℕ → Bool → ℕ → ℕ → Header
+numbered None c ends at end = Improper 1 at
+numbered (Some v) None ends at end = Improper 1 at
+numbered (Some v) (Some c) ends at end = cond ends (within v c at end) (Improper 1 at)
 
-abbrev pub judged : Bool → Bool → Natural → Natural → Bool → ℕ → ℕ → Header
+abbrev pub judged : Bool → Bool → Option ℕ → Option ℕ → Bool → ℕ → ℕ → Header
 judged p cnf v c ends at end = cond p (cond cnf (numbered v c ends at end) (Improper 1 at)) (Improper 1 at)
 
 -- ---- the limits
@@ -47,7 +44,7 @@ within-capped v c at end =
 
 form : (p cnf nv nc ends : Bool) (v c at end : ℕ)
     → cond (p && (cnf && (nv && (nc && ends)))) (cond (leb v 64 && leb c 1024) (Proper v c end) (Improper 2 at)) (Improper 1 at)
-    ≡ judged p cnf (cond nv (Value (capped v)) NoNumber) (cond nc (Value (capped c)) NoNumber) ends at end
+    ≡ judged p cnf (cond nv (Some (capped v)) None) (cond nc (Some (capped c)) None) ends at end
 form false cnf nv nc ends v c at end = refl
 form true false nv nc ends v c at end = refl
 form true true false nc ends v c at end = refl

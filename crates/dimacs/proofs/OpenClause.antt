@@ -9,14 +9,14 @@ use lib.ListN.{length}
 use lib.Seq.{slice, length-slice}
 use lib.Dec.{ltb}
 use borrow.Author.Tests.{lt-ltb, le-ltb, ltb-true, ltb-false}
-use Rattle.dimacs.specs.declared.Token.{Token}
-use Rattle.dimacs.specs.declared.Token.TheVariants.{Closing, Literal, Wrong}
-use Rattle.dimacs.specs.declared.Clause.{Clause}
-use Rattle.dimacs.specs.declared.Clause.TheVariants.{Closed, End, Refused}
+use Rattle.std.specs.Prelude.{None, Some, Result, Ok, Err}
+use Rattle.meaning.specs.Operations as meaning
+use Rattle.dimacs.specs.declared.ClosedClause.{ClosedClause}
+use Rattle.dimacs.specs.declared.Refusal.{Refusal}
 use Rattle.dimacs.specs.Text.{is_token, token_end, between}
-use Rattle.dimacs.specs.Numbers.{token_of}
+use Rattle.dimacs.specs.Numbers.{Token, Closing, Literal, Wrong, token_of}
 use Rattle.dimacs.specs.Clauses.{Next, closed, ended, refused, literal_then, after_token, clause_from, next_clause}
-use Rattle.dimacs.specs.Inner.{clause_after, clause_of}
+use Rattle.dimacs.specs.Inner.{clause_after, clause_of, open_of, closed_with, refusal_at}
 use Rattle.words.specs.declared.Literals.{Literals}
 use Rattle.words.specs.Sets.{no_literals, with_literal, with_all}
 use Rattle.dimacs.proofs.Cases.{by}
@@ -84,11 +84,11 @@ literal-set u v b ended = refl
 literal-set u v b (refused number place) = refl
 
 -- An open clause from `at` on, with the literals so far.
-abbrev pub rest_of : List ℕ → ℕ → ℕ → Literals → ℕ → Clause
+abbrev pub rest_of : List ℕ → ℕ → ℕ → Literals → ℕ → Result ClosedClause Refusal
 rest_of s n first u at = clause_after u (clause_from s n (length s - at) first at)
 
 module _ (s : List ℕ) (n first : ℕ) (u : Literals) (at : ℕ) where
-  pub rest-open : length s ≤ at → rest_of s n first u at ≡ Refused 6 first
+  pub rest-open : length s ≤ at → rest_of s n first u at ≡ Err (refusal_at 6 first)
   unfolding clause_after
   rest-open h = ap (clause_after u) (clause-end s n (length s - at) first at h)
 
@@ -103,11 +103,11 @@ module _ (s : List ℕ) (n first : ℕ) (u : Literals) (at : ℕ) where
 
     module _ (end : ℕ) (is : end ≡ token_end s at) where
       pub rest-closing : token_of n (slice at end s) ≡ Closing
-          → rest_of s n first u at ≡ Closed (record { literals = u; first = first; next = end })
+          → rest_of s n first u at ≡ Ok (closed_with u first end)
       unfolding clause_after with_all
       rest-closing e = here ∙ rw (sym is, e)
 
-      pub rest-wrong : (k : ℕ) → token_of n (slice at end s) ≡ Wrong k → rest_of s n first u at ≡ Refused k at
+      pub rest-wrong : (k : ℕ) → token_of n (slice at end s) ≡ Wrong k → rest_of s n first u at ≡ Err (refusal_at k at)
       unfolding clause_after
       rest-wrong k e = here ∙ rw (sym is, e)
 
@@ -122,21 +122,65 @@ module _ (s : List ℕ) (n first : ℕ) (u : Literals) (at : ℕ) where
 
 -- ---- what comes next
 
+-- A clause or a refusal: the reader of a clause never comes to `ended`.
+abbrev Goes : Next → Type 0
+Goes (closed ls first next) = Unit {0}
+Goes ended = ⊥
+Goes (refused number place) = Unit {0}
+
+literal-goes : (l : meaning.Literal) (x : Next) → Goes x → Goes (literal_then l x)
+literal-goes l (closed ls first next) g = tt
+literal-goes l ended g = g
+literal-goes l (refused number place) g = tt
+
+after-goes : (t : Token) (first at end : ℕ) (x : Next) → Goes x → Goes (after_token t first at end x)
+after-goes Closing first at end x g = tt
+after-goes (Literal v b) first at end x g = literal-goes (record { variable = v; positive = b }) x g
+after-goes (Wrong k) first at end x g = tt
+
+clause-goes : (s : List ℕ) (n k first at : ℕ) → Goes (clause_from s n k first at)
+unfolding clause_from
+clause-goes s n zero first at = tt
+clause-goes s n (suc k) first at =
+    by (ltb at (length s))
+    (λ t. rw t (after-goes (token_at s n at) first at (token_end s at) (clause_from s n k first (next_at s n at))
+    (clause-goes s n k first (next_at s n at))))
+    (λ f. rw f tt)
+
+closed-so : (x : Next) → Goes x → (w : ClosedClause) → Ok w ≡ open_of x → Ok (Some w) ≡ clause_of x
+unfolding clause_after clause_of
+closed-so (closed ls f next) g w e = let q : w ≡ closed_with (with_all no_literals ls) f next = cc in rw q
+closed-so ended g w e = absurd g
+closed-so (refused number place) g w e = cc
+
+refused-so : (x : Next) → Goes x → (r : Refusal) → Err r ≡ open_of x → Err r ≡ clause_of x
+unfolding clause_after clause_of
+refused-so (closed ls f next) g r e = cc
+refused-so ended g r e = absurd g
+refused-so (refused number place) g r e = let q : r ≡ refusal_at number place = cc in rw q
+
+module _ (s : List ℕ) (n k first at : ℕ) where
+  pub closed-next : (w : ClosedClause) → Ok w ≡ open_of (clause_from s n k first at) → Ok (Some w) ≡ clause_of (clause_from s n k first at)
+  closed-next w e = closed-so (clause_from s n k first at) (clause-goes s n k first at) w e
+
+  pub refused-next : (r : Refusal) → Err r ≡ open_of (clause_from s n k first at) → Err r ≡ clause_of (clause_from s n k first at)
+  refused-next r e = refused-so (clause_from s n k first at) (clause-goes s n k first at) r e
+
 module _ (s : List ℕ) (n at first : ℕ) (is : first ≡ between s at) where
-  pub next-many : (left : ℕ) → first < length s → left ≡ 0 → clause_of (next_clause s n left at) ≡ Refused 5 first
-  unfolding next_clause clause_after
+  pub next-many : (left : ℕ) → first < length s → left ≡ 0 → clause_of (next_clause s n left at) ≡ Err (refusal_at 5 first)
+  unfolding next_clause clause_of
   next-many left h e = rw (e, sym is, lt-ltb first (length s) h)
 
-  pub next_here : (left : ℕ) → first < length s → (left ≡ 0 → ⊥) → clause_of (next_clause s n left at) ≡ rest_of s n first no_literals first
-  unfolding next_clause clause_after
+  pub next_here : (left : ℕ) → first < length s → (left ≡ 0 → ⊥) → next_clause s n left at ≡ clause_from s n (length s - first) first first
+  unfolding next_clause
   next_here left h e =
       let more : left ≡ suc (left - 1) = omega (arith, e) in rw (more, sym is, lt-ltb first (length s) h)
 
-  pub next-end : (left : ℕ) → length s ≤ first → left ≡ 0 → clause_of (next_clause s n left at) ≡ End
-  unfolding next_clause clause_after
+  pub next-end : (left : ℕ) → length s ≤ first → left ≡ 0 → clause_of (next_clause s n left at) ≡ Ok None
+  unfolding next_clause clause_of
   next-end left h e = rw (e, sym is, le-ltb first (length s) h)
 
-  pub next-few : (left : ℕ) → first ≡ length s → (left ≡ 0 → ⊥) → clause_of (next_clause s n left at) ≡ Refused 5 first
-  unfolding next_clause clause_after
+  pub next-few : (left : ℕ) → first ≡ length s → (left ≡ 0 → ⊥) → clause_of (next_clause s n left at) ≡ Err (refusal_at 5 first)
+  unfolding next_clause clause_of
   next-few left h e =
       let more : left ≡ suc (left - 1) = omega (arith, e) in rw (more, sym is, le-ltb first (length s) (omega arith), h)

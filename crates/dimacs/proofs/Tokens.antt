@@ -2,18 +2,18 @@
 use mathlib.Core.Path.{◌≡◌, refl, sym, ◌∙◌}
 use mathlib.Core.Bool.{Bool, true, false, not, cond}
 use mathlib.Core.List.{List, [], ◌∷◌}
-use Prim.Native.Nat.{ℕ, suc, ◌+◌, ◌-◌, ◌≤◌, ◌<◌}
+use Prim.Native.Nat.{ℕ, suc, ◌+◌, ◌≤◌, ◌<◌}
 use native.Mathlib.Omega.{arith}
 use native.Mathlib.Numerals.{add-one}
 use lib.ListN.{length, get_or}
 use lib.Seq.{slice, slice_empty, slice-cons}
 use lib.Dec.{ltb, leb, eqb}
 use borrow.Author.Tests.{lt-ltb, le-ltb, ne_eqb, leb-true, leb-false}
-use Rattle.dimacs.specs.declared.numbers.Natural.TheVariants.{Value, Improper}
-use Rattle.dimacs.specs.declared.Token.{Token}
-use Rattle.dimacs.specs.declared.Token.TheVariants.{Closing, Literal, Wrong}
+use Rattle.std.specs.Prelude.{Option, None, Some, Ok, Err}
+use Rattle.dimacs.specs.declared.Literal as code_literal
+use Rattle.dimacs.specs.Numbers.{Token, Closing, Literal, Wrong}
 use Rattle.dimacs.specs.Numbers.{is_zero, is_digits, is_natural, unsigned, has_minus, value_of_digits, token_of}
-use Rattle.dimacs.specs.Inner.{capped, natural_of, signed_token}
+use Rattle.dimacs.specs.Inner.{capped, natural_of, signed_token, literal_at, token_read}
 use Rattle.dimacs.proofs.Cases.{by}
 use Rattle.dimacs.proofs.Digits.{capped-under, zero-value, digits_value}
 
@@ -22,7 +22,7 @@ abbrev literal_or4 : ℕ → Bool → ℕ → Token
 literal_or4 n positive v = cond (leb v n) (Literal v positive) (Wrong 4)
 
 -- Digits of value v, cut off.
-signed-digits : (n v : ℕ) (positive : Bool) → n ≤ 1024 → 1 ≤ v → signed_token n positive (Value (capped v)) ≡ literal_or4 n positive v
+signed-digits : (n v : ℕ) (positive : Bool) → n ≤ 1024 → 1 ≤ v → signed_token n positive (Some (capped v)) ≡ literal_or4 n positive v
 signed-digits n v positive small some =
     by (leb v n)
     (λ t. let q : v ≤ n = leb-true v n t in rw (capped-under v (omega arith), t, ne_eqb v 0 (omega arith), le-ltb n v q))
@@ -31,15 +31,15 @@ signed-digits n v positive small some =
     (λ o. rw (f, o, lt-ltb n 1025 (omega arith)))
     (λ u. rw (f, u, ne_eqb v 0 (omega arith), lt-ltb n v q)))
 
-natural-is : (ds : List ℕ) → is_digits ds ≡ true → natural_of ds ≡ Value (capped (value_of_digits ds))
+natural-is : (ds : List ℕ) → is_digits ds ≡ true → natural_of ds ≡ Some (capped (value_of_digits ds))
 unfolding is_natural
 natural-is ds d = by (is_zero ds) (λ t. rw t) (λ f. rw (f, d))
 
-natural-not : (ds : List ℕ) → is_zero ds ≡ false → is_digits ds ≡ false → natural_of ds ≡ Improper
+natural-not : (ds : List ℕ) → is_zero ds ≡ false → is_digits ds ≡ false → natural_of ds ≡ None
 unfolding is_natural
 natural-not ds z d = rw (z, d)
 
-natural-0 : (ds : List ℕ) → is_zero ds ≡ true → natural_of ds ≡ Value 0
+natural-0 : (ds : List ℕ) → is_zero ds ≡ true → natural_of ds ≡ Some 0
 unfolding is_natural
 natural-0 ds z = rw (z, zero-value ds z)
 
@@ -82,6 +82,24 @@ module _ (n : ℕ) (s : List ℕ) (from to : ℕ) (small : n ≤ 1024) (inside :
       ≡ signed_token n true (natural_of (slice from to s))
   token-unsigned h e =
       rw (slice-cons from to s 0 h inside) (token-plain n small (get_or s from 0) (slice (suc from) to s) (ne_eqb (get_or s from 0) 45 e))
+
+-- ---- what the code gives of a token, and what the token is then
+
+pub closing-said : (t : Token) (o : Option code_literal.Literal) → Ok o ≡ token_read t → o ≡ None → t ≡ Closing
+closing-said Closing o e f = refl
+closing-said (Literal v b) o e f = cc
+closing-said (Wrong k) o e f = cc
+
+pub literal-said : (t : Token) (o : Option code_literal.Literal) (l : code_literal.Literal) → Ok o ≡ token_read t → o ≡ Some l
+    → t ≡ Literal l.variable l.positive
+literal-said Closing o l e f = cc
+literal-said (Literal v b) o l e f = let q : l ≡ literal_at v b = cc in rw q
+literal-said (Wrong k) o l e f = cc
+
+pub wrong-said : (t : Token) (k : ℕ) → Err k ≡ token_read t → t ≡ Wrong k
+wrong-said Closing k e = cc
+wrong-said (Literal v b) k e = cc
+wrong-said (Wrong j) k e = cc
 
 -- A literal's token has bytes, and its variable is within the header.
 pub record IsLiteral (n : ℕ) (bs : List ℕ) (v : ℕ) : Type 0 where

@@ -2,13 +2,9 @@
 use Rattle.std.specs.Prelude.{cond, List, [], ◌∷◌, ℕ, zero, suc, ◌-◌, length, ltb}
 use Rattle.std.proofs.Math.Seq.{slice}
 use Rattle.meaning.specs.Operations as meaning
-use Rattle.dimacs.specs.declared.Header.{Header}
-use Rattle.dimacs.specs.declared.Header.TheVariants.{Proper, Improper}
-use Rattle.dimacs.specs.declared.Token.{Token}
-use Rattle.dimacs.specs.declared.Token.TheVariants.{Closing, Literal, Wrong}
 use Rattle.dimacs.specs.Text.{token_end, between_from, between}
-use Rattle.dimacs.specs.Numbers.{token_of}
-use Rattle.dimacs.specs.Header.{header}
+use Rattle.dimacs.specs.Numbers.{Token, Closing, Literal, Wrong, token_of}
+use Rattle.dimacs.specs.Header.{Header, Proper, Improper, header}
 
 -- ---- one clause
 

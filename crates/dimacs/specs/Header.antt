@@ -1,8 +1,6 @@
 -- The header: the lines before it, its form, its limits. (01, The formula; numbers 1 and 2)
 use Rattle.std.specs.Prelude.{Bool, true, ◌&&◌, ◌||◌, cond, List, [], ◌∷◌, ℕ, zero, suc, ◌+◌, length, get_or, eqb, leb, ltb}
 use Rattle.std.proofs.Math.Seq.{slice}
-use Rattle.dimacs.specs.declared.Header.{Header}
-use Rattle.dimacs.specs.declared.Header.TheVariants.{Proper, Improper}
 use Rattle.dimacs.specs.Text.{is_space, is_blank, past, token_end, line_end}
 use Rattle.dimacs.specs.Numbers.{is_natural, value_of_digits, value_after}
 
@@ -46,6 +44,11 @@ unfolding is_word is_natural ends_line
 is_header s p cnf variables clauses =
     is_word s p (112 ∷ [])
     && (is_word s cnf (99 ∷ 110 ∷ 102 ∷ []) && (is_natural (word s variables) && (is_natural (word s clauses) && ends_line s clauses)))
+
+-- The variables, the clauses and the end of the header's line; or a number and a place.
+pub data Header : Type 0 where
+  Proper : (variables clauses end : ℕ) → Header
+  Improper : (number place : ℕ) → Header
 
 -- A line judged as the header: the variables, the clauses and where the line ends; else 1 "no proper header" or
 -- 2 "over 64 variables or 1,024 clauses", at the line's start.

@@ -1,7 +1,5 @@
 -- Numbers of the formula as lists of bytes, and what a token says. (01, The formula)
 use Rattle.std.specs.Prelude.{Bool, true, false, not, ◌&&◌, ◌||◌, cond, List, [], ◌∷◌, ℕ, ◌+◌, ◌-◌, ◌*◌, eqb, leb}
-use Rattle.dimacs.specs.declared.Token.{Token}
-use Rattle.dimacs.specs.declared.Token.TheVariants.{Closing, Literal, Wrong}
 
 abbrev pub is_digit : ℕ → Bool
 is_digit b = leb 48 b && leb b 57
@@ -46,6 +44,12 @@ value_after n (b ∷ bs) = value_after (n * 10 + (b - 48)) bs
 
 abbrev pub value_of_digits : List ℕ → ℕ
 value_of_digits bs = value_after 0 bs
+
+-- What a token says: a closing 0; a literal's variable and sign; or the number of the token's fault.
+pub data Token : Type 0 where
+  Closing : Token
+  Literal : (variable : ℕ) (positive : Bool) → Token
+  Wrong : (number : ℕ) → Token
 
 -- What a token says in a formula of n variables: a closing 0, a literal, or the number of its fault: 3 "not a number",
 -- 4 "literal beyond the header".

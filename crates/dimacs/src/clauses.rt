@@ -4,25 +4,30 @@ ghost use Rattle.std.proofs.Math.Seq.{slice};
 ghost use Rattle.dimacs.specs.Text.{token_end};
 ghost use Rattle.dimacs.specs.Numbers.{token_of};
 ghost use Rattle.dimacs.specs.Clauses.{next_clause, clause_from};
-ghost use Rattle.dimacs.specs.Inner.{clause_of};
+ghost use Rattle.dimacs.specs.Inner.{token_read, open_of, clause_of};
 
 use crate::text::Class;
-use crate::{Clause, ClosedClause, Token, numbers, text};
+use crate::{ClosedClause, Literal, Refusal, numbers, text};
 use words::Literals;
 
-// What the token at `at` says.
-pub fn token_at(s: &[u8], at: usize, variables: u8) -> Token
+// What the token at `at` says: a literal, none where it closes the clause, or the number of its fault.
+pub fn token_at(s: &[u8], at: usize, variables: u8) -> Result<Option<Literal>, u8>
     requires { at ≤ length s.now }
-    ensures { result ≡ token_of variables (slice at (token_end s.now at) s.now) }
+    ensures { result ≡ token_read (token_of variables (slice at (token_end s.now at) s.now)) }
 {
     let end = text::past_class(s, at, Class::Token);
     numbers::read_token(s, at, end, variables)
 }
 
 // The clause of the tokens from `from` on, up to its closing 0; one that does not close is refused at `first`.
-pub fn open_clause(s: &[u8], first: usize, from: usize, variables: u8) -> Clause
+pub fn open_clause(
+    s: &[u8],
+    first: usize,
+    from: usize,
+    variables: u8,
+) -> Result<ClosedClause, Refusal>
     requires { (from ≤ length s.now) × (variables ≤ 64) }
-    ensures { result ≡ clause_of (clause_from s.now variables (length s.now - from) first from) }
+    ensures { result ≡ open_of (clause_from s.now variables (length s.now - from) first from) }
 {
     let mut literals = Literals {
         positive: 0,
@@ -32,48 +37,54 @@ pub fn open_clause(s: &[u8], first: usize, from: usize, variables: u8) -> Clause
     while at < s.len() {
         let end = text::past_class(s, at, Class::Token);
         match numbers::read_token(s, at, end, variables) {
-            Token::Closing => {
-                return Clause::Closed(ClosedClause {
+            Ok(None) => {
+                return Ok(ClosedClause {
                     literals,
                     first,
                     next: end,
                 });
             }
-            Token::Wrong(number) => {
-                return Clause::Refused { number, place: at };
+            Err(number) => {
+                return Err(Refusal { number, place: at });
             }
-            Token::Literal { variable, positive } => {
-                literals = words::with_literal(literals, variable, positive);
+            Ok(Some(l)) => {
+                literals = words::with_literal(literals, l.variable, l.positive);
                 at = text::skip_between(s, end);
             }
         }
     }
-    Clause::Refused {
+    Err(Refusal {
         number: 6,
         place: first,
-    }
+    })
 }
 
-// What comes next from `at` on, where `left` clauses are wanted yet.
-pub fn next_clause(formula: &[u8], at: usize, variables: u8, left: usize) -> Clause
+// What comes next from `at` on, where `left` clauses are wanted yet: a clause that closes, or none at the end.
+pub fn next_clause(
+    formula: &[u8],
+    at: usize,
+    variables: u8,
+    left: usize,
+) -> Result<Option<ClosedClause>, Refusal>
     requires { (at ≤ length formula.now) × (variables ≤ 64) }
     ensures { result ≡ clause_of (next_clause formula.now variables left at) }
 {
     let first = text::skip_between(formula, at);
     if first < formula.len() {
         if left == 0 {
-            return Clause::Refused {
+            return Err(Refusal {
                 number: 5,
                 place: first,
-            };
+            });
         }
-        return open_clause(formula, first, first, variables);
+        let closed = open_clause(formula, first, first, variables)?;
+        return Ok(Some(closed));
     }
     if left == 0 {
-        return Clause::End;
+        return Ok(None);
     }
-    Clause::Refused {
+    Err(Refusal {
         number: 5,
         place: first,
-    }
+    })
 }

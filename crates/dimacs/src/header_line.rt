@@ -1,11 +1,10 @@
 // The header: the first line that is neither blank nor a comment, word by word.
 ghost use Rattle.std.specs.Prelude.{◌≡◌, [], ◌∷◌, ◌≤◌, ◌<◌, length};
 ghost use Rattle.dimacs.specs.Header.{is_passed, judged_from, next_word, word, is_word, ends_line, header_at, header};
-ghost use Rattle.dimacs.specs.Inner.{natural_of};
+ghost use Rattle.dimacs.specs.Inner.{natural_of, header_read};
 
-use crate::numbers::Natural;
 use crate::text::Class;
-use crate::{Header, numbers, text};
+use crate::{Header, Refusal, numbers, text};
 
 // Whether the line at `at` is blank or a comment.
 fn is_passed(s: &[u8], at: usize) -> bool
@@ -45,7 +44,7 @@ fn next_word(s: &[u8], at: usize) -> usize
 }
 
 // The word at `at` as a number.
-fn word_number(s: &[u8], at: usize) -> Natural
+fn word_number(s: &[u8], at: usize) -> Option<u16>
     requires { at ≤ length s.now }
     ensures { result ≡ natural_of (word s.now at) }
 {
@@ -94,72 +93,51 @@ fn ends_line(s: &[u8], at: usize) -> bool
 }
 
 // The line at `at` as the header.
-fn header_at(s: &[u8], at: usize) -> Header
+fn header_at(s: &[u8], at: usize) -> Result<Header, Refusal>
     requires { at ≤ length s.now }
-    ensures { result ≡ header_at s.now at }
+    ensures { result ≡ header_read (header_at s.now at) }
 {
     let cnf = next_word(s, at);
     let variables = next_word(s, cnf);
     let clauses = next_word(s, variables);
+    let no_header = Refusal {
+        number: 1,
+        place: at,
+    };
     if !is_letter(s, at, 112) {
-        return Header::Improper {
-            number: 1,
-            place: at,
-        };
+        return Err(no_header);
     }
     if !is_cnf(s, cnf) {
-        return Header::Improper {
-            number: 1,
-            place: at,
-        };
+        return Err(no_header);
     }
-    let Natural::Value(v) = word_number(s, variables) else {
-        return Header::Improper {
-            number: 1,
-            place: at,
-        };
-    };
-    let Natural::Value(c) = word_number(s, clauses) else {
-        return Header::Improper {
-            number: 1,
-            place: at,
-        };
-    };
+    let v = word_number(s, variables).ok_or(no_header)?;
+    let c = word_number(s, clauses).ok_or(no_header)?;
     if !ends_line(s, clauses) {
-        return Header::Improper {
-            number: 1,
-            place: at,
-        };
+        return Err(no_header);
     }
-    if 64 < v {
-        return Header::Improper {
+    if 64 < v || 1024 < c {
+        return Err(Refusal {
             number: 2,
             place: at,
-        };
+        });
     }
-    if 1024 < c {
-        return Header::Improper {
-            number: 2,
-            place: at,
-        };
-    }
-    Header::Proper {
+    Ok(Header {
         variables: v as u8,
         clauses: c as usize,
         end: text::past_class(s, clauses, Class::Line),
-    }
+    })
 }
 
 // The header: the first line that is neither blank nor a comment.
-pub fn read_header(formula: &[u8]) -> Header
-    ensures { result ≡ header formula.now }
+pub fn read_header(formula: &[u8]) -> Result<Header, Refusal>
+    ensures { result ≡ header_read (header formula.now) }
 {
     let at = judged_line(formula);
     if at < formula.len() {
         return header_at(formula, at);
     }
-    Header::Improper {
+    Err(Refusal {
         number: 1,
         place: at,
-    }
+    })
 }

@@ -11,26 +11,27 @@ pub use header_line::{is_letter, judged_line, read_header};
 pub use text::{Class, past_class, skip_between};
 use words::Literals;
 
-// A closing 0; a literal's variable and sign; or the number of the token's fault.
+// A variable's literal, positive or with a minus.
 #[derive(Clone, Copy)]
-pub enum Token {
-    Closing,
-    Literal { variable: u8, positive: bool },
-    Wrong(u8),
+pub struct Literal {
+    pub variable: u8,
+    pub positive: bool,
 }
 
-// The variables, the clauses and the end of the header's line; or a number and a place.
+// Why a file is refused, and where. The number is one of those that 01 and 02 list: it stays a number, since the definition `verdict` and
+// the calls of C give it as one.
 #[derive(Clone, Copy)]
-pub enum Header {
-    Proper {
-        variables: u8,
-        clauses: usize,
-        end: usize,
-    },
-    Improper {
-        number: u8,
-        place: usize,
-    },
+pub struct Refusal {
+    pub number: u8,
+    pub place: usize,
+}
+
+// The variables, the clauses and the end of the header's line.
+#[derive(Clone, Copy)]
+pub struct Header {
+    pub variables: u8,
+    pub clauses: usize,
+    pub end: usize,
 }
 
 // The clause's literals, the place of its first token, and that behind the closing 0.
@@ -39,12 +40,4 @@ pub struct ClosedClause {
     pub literals: Literals,
     pub first: usize,
     pub next: usize,
-}
-
-// What comes next: a clause that closes, the end, or a number and a place.
-#[derive(Clone, Copy)]
-pub enum Clause {
-    Closed(ClosedClause),
-    End,
-    Refused { number: u8, place: usize },
 }

@@ -2,16 +2,9 @@
 ghost use Rattle.std.specs.Prelude.{◌≡◌, ◌+◌, ◌-◌, ◌*◌, ◌≤◌, length};
 ghost use Rattle.std.proofs.Math.Seq.{slice};
 ghost use Rattle.dimacs.specs.Numbers.{is_digit, token_of};
-ghost use Rattle.dimacs.specs.Inner.{capped, digits_after, natural_of, signed_token};
+ghost use Rattle.dimacs.specs.Inner.{capped, digits_after, natural_of, signed_token, token_read};
 
-use crate::Token;
-
-// A number with no minus, 1,025 for every one above 1,024; or none.
-#[derive(Clone, Copy)]
-pub enum Natural {
-    Value(u16),
-    Improper,
-}
+use crate::Literal;
 
 fn is_digit(b: u8) -> bool
     ensures { result ≡ is_digit b }
@@ -25,75 +18,68 @@ fn with_digit(n: u16, b: u8) -> u16
     ensures value { result ≡ capped (n * 10 + (b - 48)) }
     ensures upper_bound { result ≤ 1025 }
 {
-    let m = n * 10 + ((b - 48) as u16);
-    if 1024 < m {
-        return 1025;
-    }
-    m
+    let m = n * 10 + u16::from(b - 48);
+    m.min(1025)
 }
 
-// The bytes from `from` to `to`, all of which are to be digits.
-fn read_digits(s: &[u8], from: usize, to: usize) -> Natural
+// The bytes from `from` to `to` as a number, 1,025 for every one above 1,024; none where one of them is no digit.
+fn read_digits(s: &[u8], from: usize, to: usize) -> Option<u16>
     requires { (from ≤ to) × (to ≤ length s.now) }
     ensures { result ≡ digits_after 0 (slice from to s.now) }
 {
     let mut n: u16 = 0;
-    let mut at = from;
-    while at < to {
+    for at in from..to {
         let b = s[at];
         if !is_digit(b) {
-            return Natural::Improper;
+            return None;
         }
         n = with_digit(n, b);
-        at += 1;
     }
-    Natural::Value(n)
+    Some(n)
 }
 
-// The bytes from `from` to `to`, which are to be `0` or digits not starting with 0.
-pub fn read_natural(s: &[u8], from: usize, to: usize) -> Natural
+// The bytes from `from` to `to`, which are to be `0` or digits not starting with 0: a number with no minus.
+pub fn read_natural(s: &[u8], from: usize, to: usize) -> Option<u16>
     requires { (from ≤ to) × (to ≤ length s.now) }
     ensures { result ≡ natural_of (slice from to s.now) }
 {
     if from == to {
-        return Natural::Improper;
+        return None;
     }
     if s[from] != 48 {
         return read_digits(s, from, to);
     }
     if to - from == 1 {
-        return Natural::Value(0);
+        return Some(0);
     }
-    Natural::Improper
+    None
 }
 
 // A token with or without a minus, by the number behind it.
-fn signed_token(variables: u8, positive: bool, number: Natural) -> Token
-    ensures { result ≡ signed_token variables positive number }
+fn signed_token(variables: u8, positive: bool, number: Option<u16>) -> Result<Option<Literal>, u8>
+    ensures { result ≡ token_read (signed_token variables positive number) }
 {
-    let Natural::Value(v) = number else {
-        return Token::Wrong(3);
-    };
+    let v = number.ok_or(3)?;
     if v == 0 {
         if positive {
-            return Token::Closing;
+            return Ok(None);
         }
-        return Token::Wrong(3);
+        return Err(3);
     }
-    if (variables as u16) < v {
-        return Token::Wrong(4);
+    if u16::from(variables) < v {
+        return Err(4);
     }
     let variable = v as u8;
-    Token::Literal { variable, positive }
+    Ok(Some(Literal { variable, positive }))
 }
 
-// What the token from `from` to `to` says.
-pub fn read_token(s: &[u8], from: usize, to: usize, variables: u8) -> Token
+// What the token from `from` to `to` says: a literal, none where it closes the clause, or the number of its fault.
+pub fn read_token(s: &[u8], from: usize, to: usize, variables: u8) -> Result<Option<Literal>, u8>
     requires { (from ≤ to) × (to ≤ length s.now) }
-    ensures { result ≡ token_of variables (slice from to s.now) }
+    ensures { result ≡ token_read (token_of variables (slice from to s.now)) }
 {
     if from == to {
-        return Token::Wrong(3);
+        return Err(3);
     }
     if s[from] == 45 {
         return signed_token(variables, false, read_natural(s, from + 1, to));

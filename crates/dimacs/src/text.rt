@@ -50,14 +50,12 @@ pub fn past_class(s: &[u8], at: usize, class: Class) -> usize
     ensures value { result ≡ past (admitted class) s.now at }
     ensures lower_bound { (at ≤ result) × (result ≤ length s.now) }
 {
-    let mut i = at;
-    while i < s.len() {
+    for i in at..s.len() {
         if !admits(class, s[i]) {
             return i;
         }
-        i += 1;
     }
-    i
+    s.len()
 }
 
 // Whether a comment line starts at the place.

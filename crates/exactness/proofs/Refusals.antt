@@ -17,8 +17,7 @@ use Rattle.meaning.proofs.Booleans.{t≢f, and_both}
 use Rattle.paths.specs.Paths.{path_line}
 use Rattle.table.specs.Nodes.{Placing, full, placed, put, place}
 use Rattle.table.specs.Making.{line_reach}
-use Rattle.dimacs.specs.declared.Token.{Token}
-use Rattle.dimacs.specs.declared.Token.TheVariants.{Closing, Literal, Wrong}
+use Rattle.dimacs.specs.Numbers.{Token, Closing, Literal, Wrong}
 use Rattle.records.specs.declared.Rule.TheVariants.{Rup, Pr, Path}
 use Rattle.records.specs.declared.Record.{Record}
 use Rattle.records.specs.declared.Record.TheVariants.{NodeEntry, Witness, ProofLine, Strike, SetEntry, End, CutShort, UnknownKind}

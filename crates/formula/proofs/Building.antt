@@ -18,7 +18,8 @@ use Rattle.table.proofs.Numbers.{UsesTo}
 use Rattle.table.proofs.Written.{nodes-indexed, length-nodes}
 use Rattle.table.proofs.Outcomes.{place_in, Grown, grown}
 use Rattle.dimacs.specs.declared.ClosedClause.{ClosedClause}
-use Rattle.dimacs.specs.declared.Clause.TheVariants.{Closed, End, Refused}
+use Rattle.dimacs.specs.declared.Refusal.{Refusal}
+use Rattle.std.specs.Prelude.{None, Some, Ok, Err}
 use Rattle.dimacs.specs.Clauses.{Reading, clause, next_clause, clauses_from}
 use Rattle.dimacs.specs.Inner.{clause_of}
 use Rattle.dimacs.proofs.Formula.{IsClosed, closed_is, ended_is, refused-is, closed-wanted, clauses-closed, clauses-ended, clauses-refused}
@@ -100,7 +101,7 @@ module _ (n wanted from : ℕ) (formula : List ℕ) (s : ℕ) where
     abbrev remaining : ℕ
     remaining = wanted - made
 
-    pub building-end : clause_of (next_clause formula n remaining at) ≡ End → (mode : Mode) (proof : List ℕ)
+    pub building-end : clause_of (next_clause formula n remaining at) ≡ Ok None → (mode : Mode) (proof : List ℕ)
         → Whole mode proof ≡ proof_from mode n (size T) proof (begun (nodes_of T) (take made members))
     unfolding clauses
     building-end e mode proof =
@@ -108,16 +109,16 @@ module _ (n wanted from : ℕ) (formula : List ℕ) (s : ℕ) where
         (clauses-ended formula n remaining at (ended_is (next_clause formula n remaining at) e))
         ∙ ap (λ (k : ℕ). proof_from mode n k proof (begun (nodes_of T) (take made members))) (sym B.same_size)
 
-    pub building-refused : (number place : ℕ) → clause_of (next_clause formula n remaining at) ≡ Refused number place →
+    pub building-refused : (r : Refusal) → clause_of (next_clause formula n remaining at) ≡ Err r →
         (mode : Mode) (proof : List ℕ)
-        → Whole mode proof ≡ refused_formula number place T.count
+        → Whole mode proof ≡ refused_formula r.number r.place T.count
     unfolding clauses
-    building-refused number place e mode proof =
+    building-refused r e mode proof =
         B.left mode proof ∙ ap (clauses mode n s proof (nodes_of T) (take made members))
-        (clauses-refused formula n remaining at number place (refused-is (next_clause formula n remaining at) number place e))
-        ∙ ap (refused_formula number place) (length-nodes T B.built.good)
+        (clauses-refused formula n remaining at r.number r.place (refused-is (next_clause formula n remaining at) r e))
+        ∙ ap (refused_formula r.number r.place) (length-nodes T B.built.good)
 
-    module _ (c : ClosedClause) (e : clause_of (next_clause formula n remaining at) ≡ Closed c) where
+    module _ (c : ClosedClause) (e : clause_of (next_clause formula n remaining at) ≡ Ok (Some c)) where
       closes : IsClosed (next_clause formula n remaining at) c
       closes = closed_is (next_clause formula n remaining at) c e
 

@@ -9,8 +9,6 @@ ghost use Rattle.verdict.specs.Steps.{emptied};
 ghost use Rattle.verdict.specs.Check.{clauses};
 ghost use Rattle.formula.specs.Formula.{Opened, said_from, Begins};
 
-use dimacs::Clause;
-
 // What the formula comes to: how many nodes and how many members there are before the first record; or a number, a place and the greatest
 // count reached.
 #[derive(Clone, Copy)]
@@ -53,17 +51,17 @@ pub fn read_clauses(
     let mut at = from;
     loop {
         match dimacs::next_clause(formula, at, variables, wanted - made) {
-            Clause::End => {
+            Ok(None) => {
                 return Start::Begun { count, made };
             }
-            Clause::Refused { number, place } => {
+            Err(refusal) => {
                 return Start::Refused {
-                    number,
-                    place,
+                    number: refusal.number,
+                    place: refusal.place,
                     peak: count,
                 };
             }
-            Clause::Closed(c) => {
+            Ok(Some(c)) => {
                 let p = clause::make(vars, lows, highs, heads, links, count, c.literals);
                 if p.full {
                     return Start::Refused {

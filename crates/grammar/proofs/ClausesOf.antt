@@ -10,8 +10,7 @@ use lib.Seq.{slice}
 use lib.Dec.{ltb}
 use borrow.Author.Tests.{ltb-true, ltb-false}
 use Rattle.meaning.specs.Operations as meaning
-use Rattle.dimacs.specs.declared.Token.{Token}
-use Rattle.dimacs.specs.declared.Token.TheVariants.{Closing, Literal, Wrong}
+use Rattle.dimacs.specs.Numbers.{Token, Closing, Literal, Wrong}
 use Rattle.dimacs.specs.Text.{is_token, token_end, between}
 use Rattle.dimacs.specs.Clauses.{Next, closed, ended, refused, literal_then, after_token, clause_from, next_clause, clause as and_next}
 use Rattle.dimacs.specs.Clauses.{complete}

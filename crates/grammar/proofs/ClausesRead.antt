@@ -9,10 +9,8 @@ use lib.ListN.{length, drop}
 use lib.Seq.{slice}
 use borrow.Author.Tests.{lt-ltb, le-ltb, not-true}
 use Rattle.meaning.specs.Operations as meaning
-use Rattle.dimacs.specs.declared.Token.{Token}
-use Rattle.dimacs.specs.declared.Token.TheVariants.{Closing, Literal}
 use Rattle.dimacs.specs.Text.{is_parting, is_token, token_end, between}
-use Rattle.dimacs.specs.Numbers.{token_of}
+use Rattle.dimacs.specs.Numbers.{Token, Closing, Literal, token_of}
 use Rattle.dimacs.specs.Clauses.{Next, closed, ended, literal_then, after_token, clause_from, next_clause, clause as and_next, clauses_from}
 use Rattle.dimacs.proofs.Between.{between-least}
 use Rattle.dimacs.proofs.OpenClause.{token_at, next_at, clause-suc, literal-moves}

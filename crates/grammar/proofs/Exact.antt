@@ -9,12 +9,9 @@ use lib.ListN.{length, drop}
 use lib.Dec.{ltb}
 use borrow.Author.Tests.{lt-ltb, ltb-true, ltb-false}
 use Rattle.meaning.specs.Operations as meaning
-use Rattle.dimacs.specs.declared.Header.{Header}
-use Rattle.dimacs.specs.declared.Header.TheVariants.{Proper, Improper}
-use Rattle.dimacs.specs.declared.Token.{Token}
-use Rattle.dimacs.specs.declared.Token.TheVariants.{Closing, Literal, Wrong}
+use Rattle.dimacs.specs.Numbers.{Token, Closing, Literal, Wrong}
 use Rattle.dimacs.specs.Text.{is_token, token_end, line_end, between}
-use Rattle.dimacs.specs.Header.{judged_from, next_word, header_at, header}
+use Rattle.dimacs.specs.Header.{Header, Proper, Improper, judged_from, next_word, header_at, header}
 use Rattle.dimacs.specs.Clauses.{Next, closed, ended, refused, after_token, clause_from, next_clause, Reading, clause, complete, refusal}
 use Rattle.dimacs.specs.Clauses.{reading_then, clauses_from, formula}
 use Rattle.dimacs.proofs.Cases.{by}

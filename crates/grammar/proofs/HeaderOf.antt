@@ -11,7 +11,7 @@ use lib.Seq.{slice, drop-cons}
 use lib.Dec.{eqb, leb, ltb}
 use borrow.Author.Tests.{eqb-true, ltb-true, leb-true, not-false}
 use Rattle.meaning.proofs.Booleans.{and_both}
-use Rattle.dimacs.specs.declared.Header.TheVariants.{Proper, Improper}
+use Rattle.dimacs.specs.Header.{Proper, Improper}
 use Rattle.dimacs.specs.Text.{is_space, is_blank, is_token, is_line, past, token_end, line_end}
 use Rattle.dimacs.specs.Numbers.{is_natural, value_of_digits}
 use Rattle.dimacs.specs.Header.{is_passed, judged_from, next_word, word, spells, is_word, ends_line, is_header, header_at}

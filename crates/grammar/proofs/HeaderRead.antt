@@ -10,9 +10,8 @@ use lib.ListN.{length, get_or, drop, length-append}
 use lib.Dec.{eqb}
 use borrow.Author.Tests.{lt-ltb, eq-eqb, ne_eqb, eqb-true, le-leb}
 use Rattle.meaning.proofs.Booleans.{or_right}
-use Rattle.dimacs.specs.declared.Header.TheVariants.{Proper}
 use Rattle.dimacs.specs.Text.{is_space, is_blank, is_token, is_line, past, token_end, line_end}
-use Rattle.dimacs.specs.Header.{is_passed, judged_from, next_word, word, spells, is_word, ends_line, is_header, header_at}
+use Rattle.dimacs.specs.Header.{Proper, is_passed, judged_from, next_word, word, spells, is_word, ends_line, is_header, header_at}
 use Rattle.dimacs.proofs.Cases.{by, clash}
 use Rattle.dimacs.proofs.Runs.{past_stop, past-go, past-least}
 use Rattle.grammar.specs.Parts.{Space, space, tab, space_byte, Blank, spaces, blanks, Spaces, spacing, Number, nought, positive}

@@ -7,9 +7,8 @@ use Prim.Native.Nat.{ℕ, ◌+◌, ◌≤◌}
 use native.Mathlib.Omega.{arith}
 use lib.Dec.{eqb, leb}
 use borrow.Author.Tests.{le-leb, leb-true, ne_eqb, eqb-true}
-use Rattle.dimacs.specs.declared.Token.TheVariants.{Closing, Literal, Wrong}
 use Rattle.dimacs.specs.Text.{is_token}
-use Rattle.dimacs.specs.Numbers.{is_zero, is_digits, has_minus, unsigned, value_of_digits, token_of}
+use Rattle.dimacs.specs.Numbers.{Closing, Literal, Wrong, is_zero, is_digits, has_minus, unsigned, value_of_digits, token_of}
 use Rattle.dimacs.proofs.Cases.{by, clash}
 use Rattle.grammar.specs.Parts.{Decimal, decimal_then, decimal_value, Signed, sign, signed, literal}
 use Rattle.grammar.proofs.Places.{All}

@@ -2,8 +2,7 @@
 -- others cites this file.
 use Rattle.std.specs.Prelude.{◌≡◌, List, [], ◌∷◌, ℕ}
 use Rattle.meaning.specs.Operations as meaning
-use Rattle.dimacs.specs.declared.Header.TheVariants.{Proper}
-use Rattle.dimacs.specs.Header.{header}
+use Rattle.dimacs.specs.Header.{Proper, header}
 use Rattle.dimacs.specs.Clauses.{Reading, clause, complete, refusal, clauses_from}
 
 -- The reading gives just the clauses cs and ends with nothing refused.

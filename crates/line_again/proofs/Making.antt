@@ -12,8 +12,7 @@ use Rattle.table.specs.Nodes.{Node}
 use Rattle.table.specs.Columns.{stored_as}
 use Rattle.walks.specs.Readable.{Roomy}
 use Rattle.conflict.specs.Marks.{unmarked}
-use Rattle.dimacs.specs.declared.Header.{Header}
-use Rattle.dimacs.specs.Header.{header}
+use Rattle.dimacs.specs.Header.{Header, header}
 use Rattle.records.specs.declared.Record.{Record}
 use Rattle.records.specs.declared.Record.TheVariants.{NodeEntry, Witness, ProofLine, Strike, SetEntry, End, CutShort, UnknownKind}
 use Rattle.records.specs.declared.Record.TheVariants.{NoRecord}

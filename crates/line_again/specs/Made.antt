@@ -1,8 +1,7 @@
 -- What the check leaves, and the state made again from it. No call open to others cites this file.
 use Rattle.std.specs.Prelude.{◌≡◌, ◌++◌, ℕ, ◌+◌, ◌-◌, ◌≤◌, length}
 use Rattle.table.specs.Columns.{columns_made, stored_as}
-use Rattle.dimacs.specs.declared.Header.{Header}
-use Rattle.dimacs.specs.declared.Header.TheVariants.{Proper, Improper}
+use Rattle.dimacs.specs.Header.{Header, Proper, Improper}
 use Rattle.verdict.specs.Steps as check
 use Rattle.verdict.specs.Check.{Verdict, zeros}
 use Rattle.state.specs.States.{Lent, state_of, Held}

@@ -15,7 +15,6 @@ ghost use Rattle.line_again.specs.Before.{has_cause};
 ghost use Rattle.line_again.specs.Made.{LeftBy, begun_by, MadeAgain};
 
 use commands::{Form, Mode};
-use dimacs::Header;
 use state::State;
 use words::Literals;
 
@@ -52,15 +51,11 @@ fn begun_of(formula: &[u8], count: usize, lines: usize) -> Again
     ensures { result ≡ begun_by (header formula.now) count lines }
 {
     match dimacs::read_header(formula) {
-        Header::Proper {
-            variables,
-            clauses,
-            end: _,
-        } => Again {
-            variables,
-            state: line_state(count, clauses + lines, lines),
+        Ok(h) => Again {
+            variables: h.variables,
+            state: line_state(count, h.clauses + lines, lines),
         },
-        Header::Improper { .. } => Again {
+        Err(_) => Again {
             variables: 0,
             state: line_state(count, 0, lines),
         },

@@ -1,19 +1,19 @@
 -- One step of the walks to the end of a token and of a line, and the end of what is read of a clause. Assumes nothing.
-use mathlib.Core.Path.{◌≡◌, sym, ap, ◌∙◌}
+use mathlib.Core.Path.{◌≡◌, refl, sym, ap, ◌∙◌}
 use mathlib.Core.Bool.{true, false, not}
 use mathlib.Core.List.{List, [], ◌∷◌}
 use Prim.Native.Nat.{ℕ, ◌+◌, ◌-◌, ◌≤◌, ◌<◌}
 use lib.ListN.{length, get_or}
 use borrow.Author.Tests.{eq-eqb, ne_eqb, lt-ltb, le-ltb}
 use Rattle.dimacs.specs.declared.ClosedClause.{ClosedClause}
-use Rattle.dimacs.specs.declared.Clause.{Clause}
-use Rattle.dimacs.specs.declared.Clause.TheVariants.{Closed, End, Refused}
+use Rattle.std.specs.Prelude.{Ok, Err}
+use Rattle.dimacs.specs.declared.Refusal.{Refusal}
 use Rattle.dimacs.specs.Text.{is_parting, is_token, is_line, token_end, line_end, between}
 use Rattle.dimacs.specs.Header.{is_word}
-use Rattle.dimacs.specs.Clauses.{Next, clause_from}
-use Rattle.dimacs.specs.Inner.{clause_of}
+use Rattle.dimacs.specs.Clauses.{Next, closed, ended, refused, clause_from}
+use Rattle.words.specs.Sets.{literals_of}
+use Rattle.dimacs.specs.Inner.{clause_after, open_of, closed_with}
 use Rattle.dimacs.proofs.Runs.{past_end, past_stop, past-go}
-use Rattle.dimacs.proofs.Formula.{closed_is, ended_is, refused-is}
 use Rattle.records.specs.declared.Record.{Record}
 use Rattle.records.specs.Records.{record_at, length_of, number_of}
 use Rattle.causes.specs.Parts.{record_end, closed_end, clause_end}
@@ -37,15 +37,18 @@ module _ (s : List ℕ) (at : ℕ) where
   pub line-goes : at < length s → (get_or s at 0 ≡ 10 → ⊥) → line_end s at ≡ line_end s (at + 1)
   line-goes h e = past-go is_line s at h (ap not (ne_eqb (get_or s at 0) 10 e))
 
-module _ (s : List ℕ) (x : Next) (r : Clause) (is : r ≡ clause_of x) where
-  pub ends-closed : (w : ClosedClause) → r ≡ Closed w → w.next ≡ closed_end s x
-  ends-closed w e = sym (ap (closed_end s) (closed_is x w (sym is ∙ e)).is)
+module _ (s : List ℕ) where
+  pub ends-closed : (x : Next) (w : ClosedClause) → Ok w ≡ open_of x → w.next ≡ closed_end s x
+  unfolding clause_after
+  ends-closed (closed ls first next) w e = let q : w ≡ closed_with (literals_of ls) first next = cc in rw q
+  ends-closed ended w e = cc
+  ends-closed (refused number place) w e = cc
 
-  pub ends_open : r ≡ End → length s ≡ closed_end s x
-  ends_open e = sym (ap (closed_end s) (ended_is x (sym is ∙ e)))
-
-  pub ends-refused : (number place : ℕ) → r ≡ Refused number place → length s ≡ closed_end s x
-  ends-refused number place e = sym (ap (closed_end s) (refused-is x number place (sym is ∙ e)))
+  pub ends-refused : (x : Next) (r : Refusal) → Err r ≡ open_of x → length s ≡ closed_end s x
+  unfolding clause_after
+  ends-refused (closed ls first next) r e = cc
+  ends-refused ended r e = refl
+  ends-refused (refused number place) r e = refl
 
 module _ (s : List ℕ) (at : ℕ) where
   pub clause-struck : (from r : ℕ) → at < length s → is_word s at (100 ∷ []) ≡ true → from ≡ between s (at + 1)

@@ -11,7 +11,6 @@ ghost use Rattle.causes.specs.Shows.{text_of};
 ghost use Rattle.pieces.specs.Shown.{piece_end, is_part, bytes_of, place_in};
 
 use commands::{Command, Form};
-use dimacs::Clause;
 use records::Record;
 
 // A part of the formula or of the proof: where it starts, and the place behind its last byte.
@@ -119,9 +118,8 @@ fn closed_end(s: &[u8], at: usize, from: usize) -> usize
         result ≡ closed_end text (clause_from text 64 (length text - from) at from) }
 {
     match dimacs::open_clause(s, at, from, 64) {
-        Clause::Closed(closed) => closed.next,
-        Clause::End => s.len(),
-        Clause::Refused { .. } => s.len(),
+        Ok(closed) => closed.next,
+        Err(_) => s.len(),
     }
 }
 
@@ -146,14 +144,15 @@ fn binary_clause_end(s: &[u8], at: usize) -> usize
     ensures { let read = binary_read s.now 64 at in
         result ≡ read_end s.now read.command read.next }
 {
-    let read = commands::command_at(s, at, 64, Form::Binary);
+    let Ok(read) = commands::command_at(s, at, 64, Form::Binary) else {
+        return s.len();
+    };
     let next = read.next;
     let command = read.command;
     match command {
         Command::Added(_) => next,
         Command::Struck(_) => next,
         Command::Recorded { .. } => s.len(),
-        Command::Wrong { .. } => s.len(),
         Command::Finished => s.len(),
     }
 }

@@ -2,12 +2,16 @@
 // and 12/14)
 #![tactic(auto)]
 
-ghost use Rattle.std.specs.Prelude.{◌≡◌, cond};
-ghost use Rattle.commands.specs.declared.Command.TheVariants.{Recorded, Wrong};
+ghost use Rattle.std.specs.Prelude.{◌≡◌, ◌≤◌, cond, length, Ok, Err};
+ghost use Rattle.dimacs.specs.Inner.{refusal_at};
+ghost use Rattle.commands.specs.declared.Command.TheVariants.{Recorded};
+ghost use Rattle.commands.specs.Commands.{command_at};
+ghost use Rattle.commands.specs.Inner.{command_of, read_with};
 ghost use Rattle.verdict.specs.Check.{is_pr, is_pr_line, shut_out};
-ghost use Rattle.profile.specs.Admitted.{tried_as, admitted};
+ghost use Rattle.profile.specs.Admitted.{tried_as, let_in, admitted};
 
-use commands::{Command, DratClause, Pivot};
+use commands::{Command, DratClause, Mode, Read};
+use dimacs::Refusal;
 use records::{Record, Rule};
 
 fn is_pr(rule: Rule) -> bool
@@ -37,19 +41,19 @@ fn is_pr_line(rec: Record) -> bool
     }
 }
 
-// The record, or 33 in its place.
-fn record_in(rec: Record, more: bool, consequence: bool) -> Command
-    ensures { result ≡ cond (shut_out consequence rec) (Wrong 33 0) (Recorded rec more) }
+// The record whose first byte is at `at`, or 33 in its place.
+fn record_in(rec: Record, more: bool, at: usize, consequence: bool) -> Result<Command, Refusal>
+    ensures { result ≡ cond (shut_out consequence rec) (Err (refusal_at 33 at)) (Ok (Recorded rec more)) }
 {
     if consequence {
         if is_pr_line(rec) {
-            return Command::Wrong {
+            return Err(Refusal {
                 number: 33,
-                offset: 0,
-            };
+                place: at,
+            });
         }
     }
-    Command::Recorded { record: rec, more }
+    Ok(Command::Recorded { record: rec, more })
 }
 
 // The clause, without a pivot where it has no second try.
@@ -60,21 +64,35 @@ fn clause_in(clause: DratClause, consequence: bool) -> DratClause
         let literals = clause.literals;
         return DratClause {
             literals,
-            pivot: Pivot::Nothing,
+            pivot: None,
         };
     }
     clause
 }
 
-// The command to be judged, within the profile or without it.
-pub fn admitted(command: Command, consequence: bool) -> Command
-    ensures { result ≡ admitted consequence command }
+// The command to be judged, whose first byte is at `at`, within the profile or without it.
+fn admitted(command: Command, at: usize, consequence: bool) -> Result<Command, Refusal>
+    ensures { result ≡ let_in consequence at command }
 {
     match command {
-        Command::Recorded { record: rec, more } => record_in(rec, more, consequence),
-        Command::Added(clause) => Command::Added(clause_in(clause, consequence)),
-        Command::Struck(_) => command,
-        Command::Wrong { .. } => command,
-        Command::Finished => command,
+        Command::Recorded { record: rec, more } => record_in(rec, more, at, consequence),
+        Command::Added(clause) => Ok(Command::Added(clause_in(clause, consequence))),
+        Command::Struck(_) => Ok(command),
+        Command::Finished => Ok(command),
     }
+}
+
+// The command of the proof whose first byte is at `at`, as it is to be judged, and the place of the next; or its refusal.
+pub fn admitted_at(proof: &[u8], at: usize, variables: u8, mode: Mode) -> Result<Read, Refusal>
+    requires { (at ≤ length proof.now) × (variables ≤ 64) }
+    ensures { let read = command_at mode.form proof.now variables at in
+        result ≡ read_with at read.next (admitted mode.consequence (command_of read.command)) }
+{
+    let form = mode.form;
+    let read = commands::command_at(proof, at, variables, form)?;
+    let command = admitted(read.command, at, mode.consequence)?;
+    Ok(Read {
+        command,
+        next: read.next,
+    })
 }

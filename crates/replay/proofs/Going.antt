@@ -1,6 +1,5 @@
 -- The commands read one by one: what the whole proof comes to is what is left to be said from the state reached and the place of the next
 -- command. The idea: a command that is taken has a byte, so that there are always steps enough. Assumes nothing.
-use Rattle.commands.specs.declared.Command as code
 use Rattle.profile.specs.Admitted.{admitted}
 use mathlib.Core.Path.{◌≡◌, refl, sym, ap, ap₂, ◌∙◌, subst}
 use mathlib.Core.Bool.{true, Bool}
@@ -14,7 +13,10 @@ use Rattle.conflict.specs.Marks.{unmarked}
 use Rattle.commands.specs.declared.Mode.{Mode}
 use Rattle.commands.specs.Commands.{Command, recorded, added, struck_out, wrong, finished, start, command_at}
 use Rattle.commands.specs.declared.Read as code_read
-use Rattle.commands.specs.Inner.{command_of, read_of}
+use Rattle.std.specs.Prelude.{Result, Ok, Err}
+use Rattle.dimacs.specs.declared.Refusal.{Refusal}
+use Rattle.commands.specs.Inner.{command_of, read_with}
+use Rattle.commands.proofs.Answered.{read-ok, read-err}
 use Rattle.verdict.specs.Steps as steps
 use Rattle.verdict.specs.Check as check
 use Rattle.verdict.specs.Run.{command_in, next_in}
@@ -24,7 +26,7 @@ use Rattle.state.specs.declared.Step.{Step}
 use Rattle.state.specs.declared.Step.TheVariants.{Next, Stop, Spent}
 use Rattle.state.specs.States.{Lent, table_in, state_of, step_of, Held, HeldAfter, Unmoved, Stepped}
 use Rattle.tries.specs.Commands.{CommandFits, PivotOfFits}
-use Rattle.tries.proofs.Commands.{pivot-fits}
+use Rattle.tries.proofs.Commands.{pivot-fits, says-refused}
 use Rattle.replay.specs.Ends.{Ends}
 use Rattle.replay.proofs.Near.{stop-near}
 
@@ -111,22 +113,33 @@ module _ (mode : Mode) (n s : ℕ) (proof : List ℕ) (whole : check.Verdict) wh
         known-fits n (command_in mode proof n at)
         (fit-known mode.form n (command_in mode proof n at) (command-fit mode.form proof n at G.within))
 
-    module _ (r : code_read.Read) (is : r ≡ read_of (command_at mode.form proof n at)) (command : code.Command)
-        (let-in : command ≡ admitted mode.consequence r.command) where
-      command-is : admitted mode.consequence (command_of (command_in mode proof n at)) ≡ command
-      command-is = sym (let-in ∙ ap (λ (x : code_read.Read). admitted mode.consequence x.command) is)
+    -- what is read at the place
+    abbrev pub Reads : Result code_read.Read Refusal → Type 0
+    Reads x = x ≡ read_with at (command_at mode.form proof n at).next
+        (admitted mode.consequence (command_of (command_at mode.form proof n at).command))
 
-      pub going-asks : Held n l st × (marks ≡ unmarked (length l.vars)) × Roomy l.vars memo × PivotOfFits command
+    module _ (r : code_read.Read) (is : Reads (Ok r)) where
+      command-is : admitted mode.consequence (command_of (command_in mode proof n at)) ≡ Ok r.command
+      command-is =
+          (read-ok at (command_at mode.form proof n at).next
+          (admitted mode.consequence (command_of (command_at mode.form proof n at).command)) r is).0
+
+      pub next_is : r.next ≡ next_in mode proof n at
+      next_is =
+          (read-ok at (command_at mode.form proof n at).next
+          (admitted mode.consequence (command_of (command_at mode.form proof n at).command)) r is).1
+
+      pub going-asks : Held n l st × (marks ≡ unmarked (length l.vars)) × Roomy l.vars memo × PivotOfFits r.command
       going-asks = (
         G.held,
         G.none-marked ∙ ap unmarked (sym G.same_size),
         G.room,
-        subst PivotOfFits command-is (pivot-fits mode.consequence n G.held.entries.narrow (command_in mode proof n at) fits),
+        pivot-fits mode.consequence n G.held.entries.narrow (command_in mode proof n at) fits r.command command-is,
       )
 
       -- what the code's step says of its command it says of the definition's
       pub going-reads : (l' : Lent) (x : Step)
-          → ((profile : Bool) (c : Command) → admitted profile (command_of c) ≡ command → CommandFits n c →
+          → ((profile : Bool) (c : Command) → admitted profile (command_of c) ≡ Ok r.command → CommandFits n c →
           Stepped n l l' st (check.step profile n (length l.vars) (state_of l st) c) x)
           → Stepped n l l' st (check.step mode.consequence n (length l.vars) (state_of l st) (command_in mode proof n at)) x
       going-reads l' x W = W mode.consequence (command_in mode proof n at) command-is fits
@@ -216,6 +229,18 @@ module _ (mode : Mode) (n s : ℕ) (proof : List ℕ) (whole : check.Verdict) wh
           remains = subst (Remains mode n s proof whole (state_of l' st')) (sym here)
               (remains-next mode n s proof whole (state_of l st) at G.remains (state_of l' st') (says (Next st') e) G.within);
         }
+
+-- the command is not let in
+module _ (mode : Mode) (n s : ℕ) (proof : List ℕ) (whole : check.Verdict) (l : Lent) (marks memo : List ℕ) (st : State) (at : ℕ)
+    (G : Going mode n s proof whole l marks memo st at) where
+  pub going-refused : (f : Refusal) → Reads mode n s proof whole l marks memo st at G (Err f)
+      → (whole ≡ check.left f.number f.place st.peak (state_of l st)) × Ends l st
+  going-refused f is =
+      let w = read-err at (command_at mode.form proof n at).next
+      (admitted mode.consequence (command_of (command_at mode.form proof n at).command)) f is in
+      let W = says-refused n (length l.vars) l st w.0 mode.consequence (command_in mode proof n at) w.1 in
+      let all = going-stop mode n s proof whole l marks memo st at G l (Stop w.0.number w.0.place) W w.0.number w.0.place refl in
+      subst (λ (g : Refusal). (whole ≡ check.left g.number g.place st.peak (state_of l st)) × Ends l st) (sym w.2) all
 
 pub going_start : (mode : Mode) (n : ℕ) (proof : List ℕ) (l : Lent) (marks memo : List ℕ) (st : State) (at : ℕ) → at
     ≡ start mode.form proof

@@ -49,17 +49,34 @@ pub fn read_commands(
         members.new scratch.new struck.new in
         Ends returned result.state }
 {
-    let form = mode.form;
-    let consequence = mode.consequence;
     let mut state = first;
-    let mut at: usize = commands::start_of(proof, form);
+    let mut at: usize = commands::start_of(proof, mode.form);
     while at <= proof.len() {
-        let read = commands::command_at(proof, at, variables, form);
-        let command = read.command;
-        let let_in = profile::admitted(command, consequence);
+        let read = match profile::admitted_at(proof, at, variables, mode) {
+            Ok(read) => read,
+            Err(refusal) => {
+                return Ended {
+                    number: refusal.number,
+                    place: refusal.place,
+                    peak: state.peak,
+                    state,
+                };
+            }
+        };
         match tries::command_step(
-            vars, lows, highs, heads, links, memo, marks, members, scratch, struck, state,
-            variables, let_in,
+            vars,
+            lows,
+            highs,
+            heads,
+            links,
+            memo,
+            marks,
+            members,
+            scratch,
+            struck,
+            state,
+            variables,
+            read.command,
         ) {
             Step::Stop { number, offset } => {
                 return Ended {

@@ -20,9 +20,7 @@ use Rattle.table.specs.Nodes.{Node, node_of, above, Placing, full, placed, find,
 use Rattle.table.specs.Making.{Room, short, all, after_placing, placed_all, Reach, reach, reached, then_reach, turns_reach, kept_reach}
 use Rattle.table.specs.Making.{line_reach}
 use Rattle.dimacs.specs.Clauses.{Reading, clause, complete, refusal, clauses_from}
-use Rattle.dimacs.specs.declared.Header.{Header}
-use Rattle.dimacs.specs.declared.Header.TheVariants.{Proper, Improper}
-use Rattle.dimacs.specs.Header.{header}
+use Rattle.dimacs.specs.Header.{Header, Proper, Improper, header}
 use Rattle.records.specs.declared.Rule.TheVariants.{Rup, Pr, Path}
 use Rattle.records.specs.declared.Record.{Record}
 use Rattle.records.specs.declared.Record.TheVariants.{NodeEntry, Witness, ProofLine, Strike, SetEntry, End, CutShort, UnknownKind}

@@ -17,8 +17,7 @@ use Rattle.table.proofs.Written.{count-indexed, length-nodes}
 use Rattle.table.proofs.Sizes.{Sized, sized}
 use Rattle.table.proofs.InOrder.{left-stored}
 use Rattle.table.proofs.Emptied.{table-emptied, stored-emptied}
-use Rattle.dimacs.specs.declared.Header.TheVariants.{Proper, Improper}
-use Rattle.dimacs.specs.Header.{header}
+use Rattle.dimacs.specs.Header.{Proper, Improper, header}
 use Rattle.dimacs.specs.Clauses.{clauses_from}
 use Rattle.dimacs.proofs.Bounds.{HeaderIn, header-in}
 use Rattle.commands.specs.declared.Mode.{Mode}

@@ -13,7 +13,6 @@ ghost use Rattle.session.specs.Checked.{check_outcome};
 ghost use Rattle.formula.specs.Formula.{Opened};
 
 use commands::Mode;
-use dimacs::Header;
 use formula::Start;
 
 pub mod proof;
@@ -118,22 +117,18 @@ fn run_header<'a>(
         (verdict mode (length vars.old) formula.now proof.now) }
 {
     match dimacs::read_header(formula) {
-        Header::Improper { number, place } => Checked {
-            number,
+        Err(refusal) => Checked {
+            number: refusal.number,
             in_proof: false,
-            place,
+            place: refusal.place,
             lines: 0,
             rounds: 0,
             count: 2,
             peak: 2,
         },
-        Header::Proper {
-            variables,
-            clauses,
-            end,
-        } => run_clauses(
-            vars, lows, highs, heads, links, memo, marks, members, scratch, struck, variables,
-            clauses, end, mode, formula, proof,
+        Ok(h) => run_clauses(
+            vars, lows, highs, heads, links, memo, marks, members, scratch, struck, h.variables,
+            h.clauses, h.end, mode, formula, proof,
         ),
     }
 }

@@ -11,14 +11,15 @@ use lib.Dec.{eqb, ltb, leb}
 use borrow.Author.Tests.{leb-true, eqb-true, lt-leb, le-leb}
 use Rattle.meaning.proofs.Booleans.{and_both}
 use Rattle.words.specs.Sets.{literals_of}
-use Rattle.dimacs.specs.declared.Header.{Header}
-use Rattle.dimacs.specs.declared.Header.TheVariants.{Proper, Improper}
 use Rattle.dimacs.specs.declared.ClosedClause.{ClosedClause}
-use Rattle.dimacs.specs.declared.Clause.TheVariants as read
-use Rattle.dimacs.specs.Header.{judged_from, header}
+use Rattle.std.specs.Prelude.{None, Some, Result, Ok, Err}
+use Rattle.dimacs.specs.declared.Header as code_header
+use Rattle.dimacs.specs.declared.Refusal.{Refusal}
+use Rattle.dimacs.specs.Header.{Header, Proper, Improper, judged_from, header}
 use Rattle.dimacs.specs.Clauses.{next_clause, clauses_from}
-use Rattle.dimacs.specs.Inner.{clause_of}
+use Rattle.dimacs.specs.Inner.{clause_of, header_read, refusal_at}
 use Rattle.dimacs.proofs.Formula.{IsClosed, closed_is, ended_is, refused-is, closed-wanted, clauses-closed, clauses-ended, clauses-refused}
+use Rattle.dimacs.proofs.Formula.{header-ok, header-err}
 use Rattle.dimacs.proofs.Bounds.{NextIn, next-in, HeaderIn, header-in}
 use Rattle.records.specs.declared.NodeBody.{NodeBody}
 use Rattle.records.specs.declared.EntryNo.{EntryNo}
@@ -226,22 +227,22 @@ module _ (n wanted from : ℕ) (formula : List ℕ) where
     abbrev remaining : ℕ
     remaining = wanted - made
 
-    pub building-end : clause_of (next_clause formula n remaining at) ≡ read.End → (proof : List ℕ)
+    pub building-end : clause_of (next_clause formula n remaining at) ≡ Ok None → (proof : List ℕ)
         → word_clauses n proof [] (clauses_from formula n wanted from) ≡ word_records (suc (length proof)) n proof
         (words_begun (take made members)) 0
     unfolding word_clauses
     building-end e proof = B.left proof ∙ ap (word_clauses n proof (take made members))
         (clauses-ended formula n remaining at (ended_is (next_clause formula n remaining at) e))
 
-    pub building-refused : (number place : ℕ) → clause_of (next_clause formula n remaining at) ≡ read.Refused number place →
+    pub building-refused : (r : Refusal) → clause_of (next_clause formula n remaining at) ≡ Err r →
         (proof : List ℕ)
-        → word_clauses n proof [] (clauses_from formula n wanted from) ≡ formula_refused number place
+        → word_clauses n proof [] (clauses_from formula n wanted from) ≡ formula_refused r.number r.place
     unfolding word_clauses
-    building-refused number place e proof =
-        B.left proof ∙ ap (word_clauses n proof (take made members)) (clauses-refused formula n remaining at number place
-        (refused-is (next_clause formula n remaining at) number place e))
+    building-refused r e proof =
+        B.left proof ∙ ap (word_clauses n proof (take made members)) (clauses-refused formula n remaining at r.number r.place
+        (refused-is (next_clause formula n remaining at) r e))
 
-    module _ (c : ClosedClause) (e : clause_of (next_clause formula n remaining at) ≡ read.Closed c) where
+    module _ (c : ClosedClause) (e : clause_of (next_clause formula n remaining at) ≡ Ok (Some c)) where
       closes : IsClosed (next_clause formula n remaining at) c
       closes = closed_is (next_clause formula n remaining at) c e
 
@@ -292,21 +293,17 @@ module _ (members struck scratch : List ℕ) where
       let (c, d) = and_both (eqb (length struck) (length members)) (leb 4096 (length scratch)) b in
       (leb-true 2048 (length members) a, eqb-true (length struck) (length members) c, leb-true 4096 (length scratch) d)
 
-module _ (formula : List ℕ) (h : Header) (is : h ≡ header formula) where
-  pub header-wide : (n many at : ℕ) → h ≡ Proper n many at → 6 < n → (place : ℕ) → place ≡ judged_from formula (length formula) 0 → Improper
-      2 place ≡ six_only formula (header formula)
-  header-wide n many at e more place p =
-      ap (Improper 2) p
-      ∙ sym (ap (six_only formula) (sym is ∙ e) ∙ ap (λ (c : Bool). cond c (Proper n many at)
-      (Improper 2 (judged_from formula (length formula) 0))) (lt-leb n 6 more))
+module _ (formula : List ℕ) where
+  pub header-wide : (h : code_header.Header) → Ok h ≡ header_read (header formula) → 6 < h.variables → (place : ℕ)
+      → place ≡ judged_from formula (length formula) 0 → Err (refusal_at 2 place) ≡ header_read (six_only formula (header formula))
+  header-wide h is more place p = rw (p, header-ok (header formula) h (sym is), lt-leb h.variables 6 more)
 
-  pub header-narrow : (n many at : ℕ) → h ≡ Proper n many at → n ≤ 6 → Proper n many at ≡ six_only formula (header formula)
-  header-narrow n many at e most =
-      sym (ap (six_only formula) (sym is ∙ e) ∙ ap (λ (c : Bool). cond c (Proper n many at)
-      (Improper 2 (judged_from formula (length formula) 0))) (le-leb n 6 most))
+  pub header-narrow : (h : code_header.Header) → Ok h ≡ header_read (header formula) → h.variables ≤ 6
+      → Ok h ≡ header_read (six_only formula (header formula))
+  header-narrow h is most = rw (header-ok (header formula) h (sym is), le-leb h.variables 6 most)
 
-  pub header-improper : (number place : ℕ) → h ≡ Improper number place → Improper number place ≡ six_only formula (header formula)
-  header-improper number place e = sym (ap (six_only formula) (sym is ∙ e))
+  pub header-improper : (r : Refusal) → Err r ≡ header_read (header formula) → Err r ≡ header_read (six_only formula (header formula))
+  header-improper r is = rw (header-err (header formula) r (sym is))
 
 -- a header that is left is within the formula, and names at most six variables
 six-in : (formula : List ℕ) (h : Header) → HeaderIn formula h → (n many at : ℕ) → six_only formula h ≡ Proper n many at → (n ≤ 6) ×
@@ -323,18 +320,20 @@ six-in formula (Proper n₀ many₀ at₀) I n many at e = go (leb n₀ 6) refl 
     go false l q = let z : ◌≡◌ {A = ℕ} 0 1 = cc in absurd (omega arith)
 six-in formula (Improper number place) I n many at e = let z : ◌≡◌ {A = ℕ} 0 1 = cc in absurd (omega arith)
 
-module _ (formula proof : List ℕ) (h : Header) (is : h ≡ six_only formula (header formula)) where
-  pub run-improper : (number place : ℕ) → h ≡ Improper number place → word_verdict formula proof ≡ formula_refused number place
+module _ (formula proof : List ℕ) (r : Result code_header.Header Refusal) (is : r ≡ header_read (six_only formula (header formula))) where
+  pub run-improper : (f : Refusal) → r ≡ Err f → word_verdict formula proof ≡ formula_refused f.number f.place
   unfolding word_verdict
-  run-improper number place e = ap (words_after_header formula proof) (sym is ∙ e)
+  run-improper f e = ap (words_after_header formula proof) (header-err (six_only formula (header formula)) f (sym is ∙ e))
 
-  pub run-proper : (n many at : ℕ) → h ≡ Proper n many at → (x : Said) → word_clauses n proof [] (clauses_from formula n many at) ≡ x →
-      word_verdict formula proof ≡ x
+  pub run-proper : (h : code_header.Header) → r ≡ Ok h → (x : Said)
+      → word_clauses h.variables proof [] (clauses_from formula h.variables h.clauses h.end) ≡ x → word_verdict formula proof ≡ x
   unfolding word_verdict
-  run-proper n many at e x q = ap (words_after_header formula proof) (sym is ∙ e) ∙ q
+  run-proper h e x q = ap (words_after_header formula proof) (header-ok (six_only formula (header formula)) h (sym is ∙ e)) ∙ q
 
-  pub run-within : (n many at : ℕ) → h ≡ Proper n many at → (n ≤ 6) × (many ≤ 1024) × (at ≤ length formula)
-  run-within n many at e = six-in formula (header formula) (header-in formula) n many at (sym is ∙ e)
+  pub run-within : (h : code_header.Header) → r ≡ Ok h → (h.variables ≤ 6) × (h.clauses ≤ 1024) × (h.end ≤ length formula)
+  run-within h e =
+      six-in formula (header formula) (header-in formula) h.variables h.clauses h.end
+      (header-ok (six_only formula (header formula)) h (sym is ∙ e))
 
 -- the state before the first record
 module _ (n made : ℕ) (members struck scratch : List ℕ) (narrow : n ≤ 6) (few : made ≤ 1024) (room : 2048 ≤ length members)

@@ -19,9 +19,7 @@ use Rattle.table.proofs.Placing.{After, place_after}
 use Rattle.meaning.specs.Reduced.{Reduced}
 use Rattle.meaning.proofs.Values.{reduced-to, diagram-reduced}
 use Rattle.clause.proofs.Literals.{within_more, clause-of-words}
-use Rattle.dimacs.specs.declared.Header.{Header}
-use Rattle.dimacs.specs.declared.Header.TheVariants.{Proper, Improper}
-use Rattle.dimacs.specs.Header.{judged_from, header}
+use Rattle.dimacs.specs.Header.{Header, Proper, Improper, judged_from, header}
 use Rattle.dimacs.specs.Clauses.{Reading, clause, complete, refusal, clauses_from}
 use Rattle.records.specs.declared.Record.{Record}
 use Rattle.records.specs.Records.{record_at, length_of}

@@ -7,9 +7,7 @@ use Rattle.meaning.specs.Words.{in_word}
 use Rattle.paths.specs.Paths.{path_line}
 use Rattle.words.specs.declared.Literals.{Literals}
 use Rattle.words.specs.Sets.{literals_of}
-use Rattle.dimacs.specs.declared.Header.{Header}
-use Rattle.dimacs.specs.declared.Header.TheVariants.{Proper, Improper}
-use Rattle.dimacs.specs.Header.{header}
+use Rattle.dimacs.specs.Header.{Header, Proper, Improper, header}
 use Rattle.dimacs.specs.Clauses.{Reading, clause, complete, refusal, clauses_from}
 use Rattle.records.specs.declared.NodeBody.{NodeBody}
 use Rattle.records.specs.declared.Rule.{Rule}

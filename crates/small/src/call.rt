@@ -1,7 +1,7 @@
 // The call: 7 by the sizes; else the check over words, and every lent place zero.
 ghost use Rattle.std.specs.Prelude.{◌≡◌, true, [], ◌≤◌, length};
-ghost use Rattle.dimacs.specs.declared.Header.{Header};
 ghost use Rattle.dimacs.specs.Header.{header};
+ghost use Rattle.dimacs.specs.Inner.{header_read};
 ghost use Rattle.dimacs.specs.Clauses.{clauses_from};
 ghost use Rattle.small_verdict.specs.Small.{six_only, small_fits, small_call};
 ghost use Rattle.small.specs.WordSteps.{word_clauses, word_verdict};
@@ -9,7 +9,7 @@ ghost use Rattle.small.specs.Checked.{small_outcome};
 ghost use Rattle.small.specs.Lent.{said_of};
 
 use crate::{SmallChecked, Start, State};
-use dimacs::Header;
+use dimacs::{Header, Refusal};
 use words::Literals;
 
 // Whether member list, its marks and scratch list are of proper size.
@@ -21,29 +21,17 @@ fn lent_fits(members: &[u64], struck: &[u8], scratch: &[u64]) -> bool
 }
 
 // The header, with more than six variables refused.
-fn read_header(formula: &[u8]) -> Header
-    ensures { result ≡ six_only formula.now (header formula.now) }
+fn read_header(formula: &[u8]) -> Result<Header, Refusal>
+    ensures { result ≡ header_read (six_only formula.now (header formula.now)) }
 {
-    match dimacs::read_header(formula) {
-        Header::Improper { number, place } => Header::Improper { number, place },
-        Header::Proper {
-            variables,
-            clauses,
-            end,
-        } => {
-            if 6 < variables {
-                return Header::Improper {
-                    number: 2,
-                    place: dimacs::judged_line(formula),
-                };
-            }
-            Header::Proper {
-                variables,
-                clauses,
-                end,
-            }
-        }
+    let h = dimacs::read_header(formula)?;
+    if 6 < h.variables {
+        return Err(Refusal {
+            number: 2,
+            place: dimacs::judged_line(formula),
+        });
     }
+    Ok(h)
 }
 
 // The clauses from `from` on, then the proof. The lists are then anything.
@@ -99,19 +87,22 @@ fn run<'a>(
     ensures { word_verdict formula.now proof.now ≡ said_of result }
 {
     match read_header(formula) {
-        Header::Improper { number, place } => SmallChecked {
-            number,
+        Err(refusal) => SmallChecked {
+            number: refusal.number,
             in_proof: false,
-            place,
+            place: refusal.place,
             lines: 0,
             rounds: 0,
         },
-        Header::Proper {
-            variables,
-            clauses,
-            end,
-        } => run_clauses(
-            members, struck, scratch, variables, clauses, end, formula, proof,
+        Ok(h) => run_clauses(
+            members,
+            struck,
+            scratch,
+            h.variables,
+            h.clauses,
+            h.end,
+            formula,
+            proof,
         ),
     }
 }

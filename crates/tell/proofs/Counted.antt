@@ -11,12 +11,9 @@ use lib.Seq.{slice}
 use lib.Dec.{ltb}
 use Rattle.meaning.specs.Operations as meaning
 use Rattle.table.specs.Nodes.{Node}
-use Rattle.dimacs.specs.declared.Header.TheVariants.{Proper}
-use Rattle.dimacs.specs.declared.Token.{Token}
-use Rattle.dimacs.specs.declared.Token.TheVariants.{Closing, Literal, Wrong}
-use Rattle.dimacs.specs.Header.{header}
+use Rattle.dimacs.specs.Header.{Proper, header}
 use Rattle.dimacs.specs.Text.{token_end, between}
-use Rattle.dimacs.specs.Numbers.{token_of}
+use Rattle.dimacs.specs.Numbers.{Token, Closing, Literal, Wrong, token_of}
 use Rattle.dimacs.specs.Clauses.{Next, closed, ended, refused, after_token, clause_from, next_clause, Reading, clause, complete}
 use Rattle.dimacs.specs.Clauses.{reading_then, clauses_from}
 use Rattle.records.specs.declared.Record.{Record}

@@ -10,7 +10,10 @@ use Rattle.meaning.specs.Operations as meaning
 use Rattle.records.specs.declared.Record.{Record}
 use Rattle.commands.specs.declared.DratClause.{DratClause}
 use Rattle.commands.specs.declared.Command as code
-use Rattle.commands.specs.declared.Command.TheVariants.{Recorded, Added, Struck, Wrong, Finished}
+use Rattle.commands.specs.declared.Command.TheVariants.{Recorded, Added, Struck, Finished}
+use Rattle.std.specs.Prelude.{Ok, Err}
+use Rattle.dimacs.specs.declared.Refusal.{Refusal}
+use Rattle.dimacs.specs.Inner.{refusal_at}
 use Rattle.commands.specs.Commands.{Command, recorded, added, struck_out, wrong, finished}
 use Rattle.commands.specs.Inner.{clause_words, command_of}
 use Rattle.verdict.specs.Steps as check
@@ -27,92 +30,77 @@ use Rattle.tries.specs.Commands.{CommandFits, PivotOfFits}
 
 -- ---- the code's command tells the definition's
 
-abbrev kind : code.Command → ℕ
-kind (Recorded r more) = 0
-kind (Added c) = 1
-kind (Struck c) = 2
-kind (Wrong number offset) = 3
-kind Finished = 4
-
-differs : {A : Type 0} (x y : code.Command) → x ≡ y → (kind x ≡ kind y → ⊥) → A
-differs x y e ne = absurd (ne (ap kind e))
-
 module _ (n s : ℕ) (l l' : Lent) (st : State) (r : Step) where
   -- Of every command that the code's one stands for the step says this.
   abbrev pub Says : code.Command → Type 0
-  Says command = (profile : Bool) (c : Command) → admitted profile (command_of c) ≡ command → CommandFits n c →
+  Says command = (profile : Bool) (c : Command) → admitted profile (command_of c) ≡ Ok command → CommandFits n c →
       Stepped n l l' st (step profile n s (state_of l st) c) r
 
-  -- A record is let in as it is, or 33 is in its place.
-  recorded-in : {A : Type 0} (profile : Bool) (rec : Record) (more : Bool) (command : code.Command) → admitted profile (Recorded rec more)
-      ≡ command
-      → (shut_out profile rec ≡ true → Wrong 33 0 ≡ command → A) → (shut_out profile rec ≡ false → Recorded rec more ≡ command → A) → A
-  recorded-in {A} profile rec more command e shut let-in = go (shut_out profile rec) refl e
+  -- A record is let in as it is.
+  recorded-in : {A : Type 0} (profile : Bool) (rec : Record) (more : Bool) (command : code.Command) → admitted profile (Ok (Recorded rec more))
+      ≡ Ok command
+      → (shut_out profile rec ≡ false → Recorded rec more ≡ command → A) → A
+  recorded-in {A} profile rec more command e let-in = go (shut_out profile rec) refl e
     where
-      go : (b : Bool) → shut_out profile rec ≡ b → cond b (Wrong 33 0) (Recorded rec more) ≡ command → A
-      go true q e = shut q e
-      go false q e = let-in q e
+      go : (b : Bool) → shut_out profile rec ≡ b → cond b (Err (refusal_at 33 0)) (Ok (Recorded rec more)) ≡ Ok command → A
+      go true q e = cc
+      go false q e = let-in q (let same : Recorded rec more ≡ command = cc in same)
 
   pub says-recorded : (rec : Record) (more : Bool) → Stepped n l l' st (check.record_step n s (state_of l st) more rec) r →
       Says (Recorded rec more)
   unfolding step
   says-recorded rec more W profile (recorded rec' more') e fits =
-      recorded-in profile rec' more' (Recorded rec more) e (λ q d. differs (Wrong 33 0) (Recorded rec more) d (λ z. omega arith))
+      recorded-in profile rec' more' (Recorded rec more) e
       (λ q d. let same : rec' ≡ rec = cc in let also : more' ≡ more = cc in rw (q, same, also) W)
-  says-recorded rec more W profile (added ls) e fits = differs (Added (tried_as profile (clause_words ls))) (Recorded rec more) e
-      (λ z. omega arith)
-  says-recorded rec more W profile (struck_out ls) e fits = differs (Struck (clause_words ls)) (Recorded rec more) e (λ z. omega arith)
-  says-recorded rec more W profile (wrong number offset) e fits = differs (Wrong number offset) (Recorded rec more) e (λ z. omega arith)
-  says-recorded rec more W profile finished e fits = differs Finished (Recorded rec more) e (λ z. omega arith)
+  says-recorded rec more W profile (added ls) e fits = cc
+  says-recorded rec more W profile (struck_out ls) e fits = cc
+  says-recorded rec more W profile (wrong number offset) e fits = cc
+  says-recorded rec more W profile finished e fits = cc
 
   pub says-added : (clause : DratClause)
       → ((profile : Bool) (ls : List meaning.Literal) → OfVariables n ls → tried_as profile (clause_words ls) ≡ clause →
       Stepped n l l' st (add_step profile n s (state_of l st) ls) r)
       → Says (Added clause)
   unfolding step
-  says-added clause W profile (recorded rec more) e fits =
-      recorded-in profile rec more (Added clause) e (λ q d. differs (Wrong 33 0) (Added clause) d (λ z. omega arith))
-      (λ q d. differs (Recorded rec more) (Added clause) d (λ z. omega arith))
+  says-added clause W profile (recorded rec more) e fits = recorded-in profile rec more (Added clause) e (λ q d. cc)
   says-added clause W profile (added ls) e fits = let same : tried_as profile (clause_words ls) ≡ clause = cc in W profile ls fits same
-  says-added clause W profile (struck_out ls) e fits = differs (Struck (clause_words ls)) (Added clause) e (λ z. omega arith)
-  says-added clause W profile (wrong number offset) e fits = differs (Wrong number offset) (Added clause) e (λ z. omega arith)
-  says-added clause W profile finished e fits = differs Finished (Added clause) e (λ z. omega arith)
+  says-added clause W profile (struck_out ls) e fits = cc
+  says-added clause W profile (wrong number offset) e fits = cc
+  says-added clause W profile finished e fits = cc
 
   pub says-struck : (clause : DratClause) → ((ls : List meaning.Literal) → OfVariables n ls → clause_words ls ≡ clause →
       Stepped n l l' st (strike_clause n (state_of l st) ls) r)
       → Says (Struck clause)
   unfolding step
-  says-struck clause W profile (recorded rec more) e fits =
-      recorded-in profile rec more (Struck clause) e (λ q d. differs (Wrong 33 0) (Struck clause) d (λ z. omega arith))
-      (λ q d. differs (Recorded rec more) (Struck clause) d (λ z. omega arith))
-  says-struck clause W profile (added ls) e fits = differs (Added (tried_as profile (clause_words ls))) (Struck clause) e (λ z. omega arith)
+  says-struck clause W profile (recorded rec more) e fits = recorded-in profile rec more (Struck clause) e (λ q d. cc)
+  says-struck clause W profile (added ls) e fits = cc
   says-struck clause W profile (struck_out ls) e fits = let same : clause_words ls ≡ clause = cc in W ls fits same
-  says-struck clause W profile (wrong number offset) e fits = differs (Wrong number offset) (Struck clause) e (λ z. omega arith)
-  says-struck clause W profile finished e fits = differs Finished (Struck clause) e (λ z. omega arith)
+  says-struck clause W profile (wrong number offset) e fits = cc
+  says-struck clause W profile finished e fits = cc
 
   pub says-finished : Stepped n l l' st (finish (state_of l st)) r → Says Finished
   unfolding step
-  says-finished W profile (recorded rec more) e fits =
-      recorded-in profile rec more Finished e (λ q d. differs (Wrong 33 0) Finished d (λ z. omega arith))
-      (λ q d. differs (Recorded rec more) Finished d (λ z. omega arith))
-  says-finished W profile (added ls) e fits = differs (Added (tried_as profile (clause_words ls))) Finished e (λ z. omega arith)
-  says-finished W profile (struck_out ls) e fits = differs (Struck (clause_words ls)) Finished e (λ z. omega arith)
-  says-finished W profile (wrong number offset) e fits = differs (Wrong number offset) Finished e (λ z. omega arith)
+  says-finished W profile (recorded rec more) e fits = recorded-in profile rec more Finished e (λ q d. cc)
+  says-finished W profile (added ls) e fits = cc
+  says-finished W profile (struck_out ls) e fits = cc
+  says-finished W profile (wrong number offset) e fits = cc
   says-finished W profile finished e fits = W
 
-pub says-wrong : (n s : ℕ) (l : Lent) (st : State) (number offset : ℕ) → Says n s l l st (Stop number offset) (Wrong number offset)
+-- What is not let in is refused so.
+pub says-refused : (n s : ℕ) (l : Lent) (st : State) (f : Refusal) (profile : Bool) (c : Command) → admitted profile (command_of c) ≡ Err f
+    → Stepped n l l st (step profile n s (state_of l st) c) (Stop f.number f.place)
 unfolding step
-says-wrong n s l st number offset profile (recorded rec more) e fits =
-    recorded-in n s l l st (Stop number offset) profile rec more (Wrong number offset) e
-    (λ q d. let same : 33 ≡ number = cc in let also : 0 ≡ offset = cc in stopped n l st _ number offset (rw (q, same, also)))
-    (λ q d. differs (Recorded rec more) (Wrong number offset) d (λ z. omega arith))
-says-wrong n s l st number offset profile (added ls) e fits = differs (Added (tried_as profile (clause_words ls))) (Wrong number offset) e
-    (λ z. omega arith)
-says-wrong n s l st number offset profile (struck_out ls) e fits = differs (Struck (clause_words ls)) (Wrong number offset) e
-    (λ z. omega arith)
-says-wrong n s l st number offset profile (wrong k o) e fits = let same : k ≡ number = cc in let also : o ≡ offset = cc in
-    stopped n l st _ number offset (rw (same, also))
-says-wrong n s l st number offset profile finished e fits = differs Finished (Wrong number offset) e (λ z. omega arith)
+says-refused n s l st f profile (recorded rec more) e = go (shut_out profile rec) refl e
+  where
+    go : (b : Bool) → shut_out profile rec ≡ b → cond b (Err (refusal_at 33 0)) (Ok (Recorded rec more)) ≡ Err f
+        → Stepped n l l st (step profile n s (state_of l st) (recorded rec more)) (Stop f.number f.place)
+    go true q e = let same : refusal_at 33 0 ≡ f = cc in stopped n l st _ f.number f.place (rw (q, sym same))
+    go false q e = cc
+says-refused n s l st f profile (added ls) e = cc
+says-refused n s l st f profile (struck_out ls) e = cc
+says-refused n s l st f profile (wrong k o) e =
+    let same : refusal_at k o ≡ f = cc in stopped n l st _ f.number f.place (rw (sym same))
+says-refused n s l st f profile finished e = cc
 
 -- The same, the command being one of that kind.
 pub says-as : (n s : ℕ) (l l' : Lent) (st : State) (r : Step) (command command' : code.Command) → command ≡ command' →
@@ -121,18 +109,25 @@ says-as n s l l' st r command command' e W = subst (Says n s l l' st r) (sym e) 
 
 -- ---- what is asked of a command that is read
 
-pub pivot-fits : (profile : Bool) (n : ℕ) → n ≤ 64 → (c : Command) → CommandFits n c → PivotOfFits (admitted profile (command_of c))
-pivot-fits profile n narrow (recorded r more) fits = go (shut_out profile r)
+pub added-fits : (profile : Bool) (n : ℕ) → n ≤ 64 → (ls : List meaning.Literal) → OfVariables n ls
+    → PivotFits (tried_as profile (clause_words ls)).pivot
+added-fits true n narrow ls fits = tt
+added-fits false n narrow [] fits = tt
+added-fits false n narrow (l ∷ ls) fits = (fits.0, omega (arith, fits.1, narrow))
+
+pub pivot-fits : (profile : Bool) (n : ℕ) → n ≤ 64 → (c : Command) → CommandFits n c → (command : code.Command)
+    → admitted profile (command_of c) ≡ Ok command → PivotOfFits command
+pivot-fits profile n narrow (recorded r more) fits command e = go (shut_out profile r) e
   where
-    go : (b : Bool) → PivotOfFits (cond b (Wrong 33 0) (Recorded r more))
-    go true = tt
-    go false = tt
-pivot-fits true n narrow (added ls) fits = tt
-pivot-fits false n narrow (added []) fits = tt
-pivot-fits false n narrow (added (l ∷ ls)) fits = (fits.0, omega (arith, fits.1, narrow))
-pivot-fits profile n narrow (struck_out ls) fits = tt
-pivot-fits profile n narrow (wrong number offset) fits = tt
-pivot-fits profile n narrow finished fits = tt
+    go : (b : Bool) → cond b (Err (refusal_at 33 0)) (Ok (Recorded r more)) ≡ Ok command → PivotOfFits command
+    go true e = cc
+    go false e = let same : Recorded r more ≡ command = cc in subst PivotOfFits same tt
+pivot-fits profile n narrow (added ls) fits command e =
+    let same : Added (tried_as profile (clause_words ls)) ≡ command = cc in subst PivotOfFits same (added-fits profile n narrow ls fits)
+pivot-fits profile n narrow (struck_out ls) fits command e =
+    let same : Struck (clause_words ls) ≡ command = cc in subst PivotOfFits same tt
+pivot-fits profile n narrow (wrong number offset) fits command e = cc
+pivot-fits profile n narrow finished fits command e = let same : Finished ≡ command = cc in subst PivotOfFits same tt
 
 pub pivot-of : (command : code.Command) (c : DratClause) → command ≡ Added c → PivotOfFits command → PivotFits c.pivot
 pivot-of command c e fits = subst PivotOfFits e fits

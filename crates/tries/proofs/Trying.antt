@@ -19,8 +19,8 @@ use Rattle.table.specs.Indexed.{Table, size, nodes_of}
 use Rattle.table.specs.Making.{reach, line_reach}
 use Rattle.table.specs.Lists.{Inside, diagrams_of}
 use Rattle.table.specs.declared.Placed.{Placed}
-use Rattle.commands.specs.declared.Pivot.{Pivot}
-use Rattle.commands.specs.declared.Pivot.TheVariants.{Nothing, First}
+use Rattle.std.specs.Prelude.{Option, None, Some}
+use Rattle.dimacs.specs.declared.Literal as code_literal
 use Rattle.commands.specs.declared.DratClause.{DratClause}
 use Rattle.commands.specs.Inner.{clause_words}
 use Rattle.judge.specs.declared.Judged.{Judged}
@@ -143,20 +143,20 @@ module _ (n : ℕ) (L : Lent) (st : State) (H : Held n L st) (k : ℕ) (k-in : k
 
 -- ---- the code's answers
 
-second-most : (t : Table) (live : List ℕ) (g : ℕ) (u : Literals) (pivot : Pivot) (r : Judged) → SecondTried t live g u pivot r →
+second-most : (t : Table) (live : List ℕ) (g : ℕ) (u : Literals) (pivot : Option code_literal.Literal) (r : Judged) → SecondTried t live g u pivot r →
     r.rounds ≤ most_rounds
-second-most t live g u Nothing r e = let z : r.rounds ≡ 0 = ap (λ (x : Judged). x.rounds) e in omega arith
-second-most t live g u (First v b) r W = W.most
+second-most t live g u None r e = let z : r.rounds ≡ 0 = ap (λ (x : Judged). x.rounds) e in omega arith
+second-most t live g u (Some l) r W = W.most
 
 module _ (t : Table) (live : List ℕ) where
-  pub second-tried : (g : ℕ) (u : Literals) (pivot : Pivot) (v : ℕ) (b : Bool) → pivot ≡ First v b → (w : Literals) → w
-      ≡ witness_words u v b → (r : Judged)
+  pub second-tried : (g : ℕ) (u : Literals) (pivot : Option code_literal.Literal) (l : code_literal.Literal) → pivot ≡ Some l → (w : Literals) → w
+      ≡ witness_words u l.variable l.positive → (r : Judged)
       → Tried t (pr_in t live g w) r → SecondTried t live g u pivot r
-  second-tried g u pivot v b e w is r W = subst (λ (q : Pivot). SecondTried t live g u q r) (sym e)
+  second-tried g u pivot l e w is r W = subst (λ (q : Option code_literal.Literal). SecondTried t live g u q r) (sym e)
       (subst (λ (x : Literals). Tried t (pr_in t live g x) r) is W)
 
-  pub second_none : (g : ℕ) (u : Literals) (pivot : Pivot) → pivot ≡ Nothing → SecondTried t live g u pivot (untried false)
-  second_none g u pivot e = subst (λ (q : Pivot). SecondTried t live g u q (untried false)) (sym e) refl
+  pub second_none : (g : ℕ) (u : Literals) (pivot : Option code_literal.Literal) → pivot ≡ None → SecondTried t live g u pivot (untried false)
+  second_none g u pivot e = subst (λ (q : Option code_literal.Literal). SecondTried t live g u q (untried false)) (sym e) refl
 
   pub both_most : (c : DratClause) (made : Placed) (r : Judged) → BothTried t live c made r → r.rounds ≤ most_rounds
   both_most c made r (no_room f) = omega arith

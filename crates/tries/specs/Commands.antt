@@ -1,7 +1,7 @@
 -- What is asked of a command, as the definition reads it and as the code has it. No call open to others cites this file.
 use Rattle.std.specs.Prelude.{ℕ}
 use Rattle.commands.specs.declared.Command as code
-use Rattle.commands.specs.declared.Command.TheVariants.{Recorded, Added, Struck, Wrong, Finished}
+use Rattle.commands.specs.declared.Command.TheVariants.{Recorded, Added, Struck, Finished}
 use Rattle.commands.specs.Commands.{Command, recorded, added, struck_out, wrong, finished}
 use Rattle.tries.specs.Tries.{PivotFits}
 use Rattle.meaning.specs.Literals.{OfVariables}
@@ -19,5 +19,4 @@ abbrev pub PivotOfFits : code.Command → Type 0
 PivotOfFits (Recorded r more) = Unit {0}
 PivotOfFits (Added c) = PivotFits c.pivot
 PivotOfFits (Struck c) = Unit {0}
-PivotOfFits (Wrong number offset) = Unit {0}
 PivotOfFits Finished = Unit {0}

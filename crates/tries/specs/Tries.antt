@@ -7,8 +7,8 @@ use Rattle.table.specs.Nodes.{diagram_at}
 use Rattle.table.specs.Indexed.{Table, nodes_of}
 use Rattle.table.specs.Lists.{diagrams_of}
 use Rattle.table.specs.declared.Placed.{Placed}
-use Rattle.commands.specs.declared.Pivot.{Pivot}
-use Rattle.commands.specs.declared.Pivot.TheVariants.{Nothing, First}
+use Rattle.std.specs.Prelude.{Option, None, Some}
+use Rattle.dimacs.specs.declared.Literal as code_literal
 use Rattle.commands.specs.declared.DratClause.{DratClause}
 use Rattle.judge.specs.declared.Judged.{Judged}
 use Rattle.verdict.specs.Steps.{unstruck}
@@ -35,9 +35,9 @@ with_nodes st count = record {
 }
 
 -- A pivot is a literal of one of the 64 variables.
-abbrev pub PivotFits : Pivot → Type 0
-PivotFits Nothing = Unit {0}
-PivotFits (First v b) = (1 ≤ v) × (v ≤ 64)
+abbrev pub PivotFits : Option code_literal.Literal → Type 0
+PivotFits None = Unit {0}
+PivotFits (Some l) = (1 ≤ l.variable) × (l.variable ≤ 64)
 
 -- ---- what trying says, node g being the clause's
 
@@ -52,9 +52,9 @@ abbrev pub untried : Bool → Judged
 untried full = record { full = full; shown = false; rounds = 0; count = 0; peak = 0 }
 
 -- "The empty clause has no pivot" (02, 4/14), and no second try.
-abbrev pub SecondTried : Table → List ℕ → ℕ → Literals → Pivot → Judged → Type 0
-SecondTried t live g u Nothing r = r ≡ untried false
-SecondTried t live g u (First v b) r = Tried t (pr_in t live g (witness_words u v b)) r
+abbrev pub SecondTried : Table → List ℕ → ℕ → Literals → Option code_literal.Literal → Judged → Type 0
+SecondTried t live g u None r = r ≡ untried false
+SecondTried t live g u (Some l) r = Tried t (pr_in t live g (witness_words u l.variable l.positive)) r
 
 -- A try after which there is no other: "failing with 19" alone leads to the second.
 abbrev pub decided : Judged → Bool

@@ -12,7 +12,7 @@ ghost use Rattle.state.specs.States.{lent_of, state_of, Held, Stepped};
 ghost use Rattle.tries.specs.Tries.{live_in, PivotFits, SecondTried, decided, BothTried, kept_by};
 ghost use Rattle.meaning.specs.Literals.{OfVariables};
 
-use commands::{DratClause, Pivot};
+use commands::DratClause;
 use judge::Judged;
 use records::Rule;
 use state::{State, Step};
@@ -75,15 +75,15 @@ fn second_try(
     let literals = clause.literals;
     let pivot = clause.pivot;
     match pivot {
-        Pivot::Nothing => Judged {
+        None => Judged {
             full: false,
             shown: false,
             rounds: 0,
             count: 0,
             peak: 0,
         },
-        Pivot::First { variable, positive } => {
-            let w = crate::witness(literals, variable, positive);
+        Some(l) => {
+            let w = crate::witness(literals, l.variable, l.positive);
             steps::line::try_line(
                 vars,
                 lows,

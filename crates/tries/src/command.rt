@@ -1,5 +1,5 @@
 // The step of a command, whatever its form. (02, 4/14)
-ghost use Rattle.std.specs.Prelude.{◌≡◌, Bool, ℕ, length};
+ghost use Rattle.std.specs.Prelude.{◌≡◌, Bool, ℕ, length, Ok};
 ghost use Rattle.walks.specs.Readable.{Roomy};
 ghost use Rattle.conflict.specs.Marks.{unmarked};
 ghost use Rattle.commands.specs.Commands as read;
@@ -53,7 +53,7 @@ pub fn command_step(
         members.old scratch.old struck.old in
         let returned = lent_of vars.new lows.new highs.new heads.new links.new
         members.new scratch.new struck.new in
-        (profile : Bool) (c : read.Command) → admitted profile (command_of c) ≡ command → CommandFits variables c →
+        (profile : Bool) (c : read.Command) → admitted profile (command_of c) ≡ Ok command → CommandFits variables c →
         Stepped variables lent returned st (step profile variables (length vars.old) (state_of lent st) c) result }
     ensures marks_after { marks.new ≡ unmarked (length vars.old) }
 {
@@ -68,7 +68,6 @@ pub fn command_step(
         Command::Struck(clause) => crate::strike_clause(
             vars, lows, highs, heads, links, members, struck, st, clause,
         ),
-        Command::Wrong { number, offset } => Step::Stop { number, offset },
         Command::Finished => finish_step(st),
     }
 }

@@ -16,8 +16,7 @@ use Rattle.table.specs.Nodes.{Node, placed, place}
 use Rattle.table.proofs.Order.{Ordered}
 use Rattle.table.proofs.Growth.{extends-length}
 use Rattle.table.proofs.Placing.{After, place_after}
-use Rattle.dimacs.specs.declared.Header.TheVariants.{Proper}
-use Rattle.dimacs.specs.Header.{header}
+use Rattle.dimacs.specs.Header.{Proper, header}
 use Rattle.dimacs.specs.Clauses.{Reading, clause, clauses_from, formula}
 use Rattle.dimacs.proofs.Bounds.{HeaderIn, header-in}
 use Rattle.verdict.specs.Steps.{emptied, begun}

@@ -19,9 +19,7 @@ use Rattle.meaning.proofs.Values.{value-agree}
 use Rattle.table.specs.Nodes.{Node, diagram_at, Placing, full, placed, place}
 use Rattle.table.proofs.Numbers.{reduced-to}
 use Rattle.table.specs.Columns.{Columns}
-use Rattle.dimacs.specs.declared.Header.{Header}
-use Rattle.dimacs.specs.declared.Header.TheVariants.{Proper, Improper}
-use Rattle.dimacs.specs.Header.{header}
+use Rattle.dimacs.specs.Header.{Header, Proper, Improper, header}
 use Rattle.dimacs.specs.Clauses.{Reading, clause, complete, refusal, clauses_from, formula}
 use Rattle.records.specs.declared.Rule.{Rule}
 use Rattle.records.specs.declared.Rule.TheVariants.{Rup, Pr, Path}

@@ -8,13 +8,9 @@ use lib.ListN.{length}
 use lib.Seq.{slice}
 use lib.Dec.{ltb, leb}
 use Rattle.meaning.specs.Literals.{OfVariables}
-use Rattle.dimacs.specs.declared.Header.{Header}
-use Rattle.dimacs.specs.declared.Header.TheVariants.{Proper, Improper}
-use Rattle.dimacs.specs.declared.Token.{Token}
-use Rattle.dimacs.specs.declared.Token.TheVariants.{Closing, Literal, Wrong}
 use Rattle.dimacs.specs.Text.{token_end, between}
-use Rattle.dimacs.specs.Numbers.{is_zero, is_number, unsigned, has_minus, value_of_digits, token_of}
-use Rattle.dimacs.specs.Header.{judged_from, next_word, word, is_header, header_at, header}
+use Rattle.dimacs.specs.Numbers.{Token, Closing, Literal, Wrong, is_zero, is_number, unsigned, has_minus, value_of_digits, token_of}
+use Rattle.dimacs.specs.Header.{Header, Proper, Improper, judged_from, next_word, word, is_header, header_at, header}
 use Rattle.dimacs.specs.Clauses.{Next, closed, ended, refused, literal_then, after_token, clause_from, clause_at, next_clause, Reading}
 use Rattle.dimacs.specs.Clauses.{clause}
 use Rattle.dimacs.specs.Clauses.{complete, refusal, reading_then, clauses_from}

@@ -4,9 +4,7 @@ use Rattle.std.specs.Prelude.{Bool, true, false, ◌&&◌, cond, List, [], ◌�
 use Rattle.meaning.specs.Operations as meaning
 use Rattle.table.specs.Nodes.{Node, Placing, full, placed, place}
 use Rattle.table.specs.Columns.{size_fits, Columns, stored_as}
-use Rattle.dimacs.specs.declared.Header.{Header}
-use Rattle.dimacs.specs.declared.Header.TheVariants.{Proper, Improper}
-use Rattle.dimacs.specs.Header.{header}
+use Rattle.dimacs.specs.Header.{Header, Proper, Improper, header}
 use Rattle.dimacs.specs.Clauses.{Reading, clause, complete, refusal, clauses_from}
 use Rattle.records.specs.declared.Rule.{Rule}
 use Rattle.records.specs.declared.Rule.TheVariants.{Rup, Pr, Path}

@@ -1,11 +1,20 @@
--- `command_in`: the command read, then what the profile lets in. Assumes nothing.
-use mathlib.Core.Path.{ap, ◌∙◌}
-use Rattle.commands.specs.declared.Read as code_read
+-- `command_in`: the command, where it is let in. Assumes nothing.
+use mathlib.Core.Path.{◌≡◌, sym}
+use Rattle.std.specs.Prelude.{Ok, Err}
+use Rattle.commands.specs.Commands.{command_at}
+use Rattle.commands.specs.Inner.{command_of}
+use Rattle.commands.proofs.Answered.{read-ok, read-err}
 use Rattle.profile.specs.Admitted.{admitted}
 use Rattle.cause_again.proofs.command_in.Goals as goal
 
+pub returns-in_default : goal.returns-in_default
+returns-in_default c =
+    let w = read-err _ _ (admitted c.args.mode.consequence
+    (command_of (command_at c.args.mode.form c.args.proof.now c.args.variables c.args.at).command)) _ c.in_default.ensures in
+    rw w.1
+
 pub returns : goal.returns
 returns c =
-    c.admitted.ensures
-    ∙ ap (λ (x : code_read.Read). admitted c.args.mode.consequence x.command)
-    c.command_at-read.ensures
+    let w = read-ok _ _ (admitted c.args.mode.consequence
+    (command_of (command_at c.args.mode.form c.args.proof.now c.args.variables c.args.at).command)) _ c.in-Ok.ensures in
+    rw w.0

@@ -32,13 +32,13 @@ rup_cause-rounds-requires c =
         c.requires.fact.4,
         c.requires.fact.5,
         first-fails (before c12.before.before.before.before.before.before.before.before.before.before)
-            (live c12.before.before.before.before.before.before.before.before.before.before) _ _ _ c.in-Nothing.is c.requires.fact.7,
+            (live c12.before.before.before.before.before.before.before.before.before.before) _ _ _ c.in-None.is c.requires.fact.7,
       );
       in_bounds = c.requires.in_bounds;
     }
 
 pub witness-w-requires : goal.witness-w-requires
-witness-w-requires c = subst PivotFits c.in-First.is c.requires.fact.6
+witness-w-requires c = subst PivotFits c.in-Some.is c.requires.fact.6
 
 pub pr_cause-t-requires : goal.pr_cause-t-requires
 pr_cause-t-requires c =
@@ -52,74 +52,74 @@ pr_cause-t-requires c =
         c.requires.fact.3,
         c.requires.fact.4,
         c.requires.fact.5,
-        second-fails (before c24) (live c24) _ _ _ _ _ c.in-First.is _
+        second-fails (before c24) (live c24) _ _ _ _ c.in-Some.is _
             c.witness-w.ensures c.requires.fact.7,
       );
       in_bounds = c.requires.in_bounds;
     }
 
-pub shape_of-vars-in-Nothing : goal.shape_of-vars-in-Nothing
-shape_of-vars-in-Nothing c = c.rup_cause-rounds.auto.vars
+pub shape_of-vars-in-None : goal.shape_of-vars-in-None
+shape_of-vars-in-None c = c.rup_cause-rounds.auto.vars
 
-pub shape_of-lows-in-Nothing : goal.shape_of-lows-in-Nothing
-shape_of-lows-in-Nothing c = c.rup_cause-rounds.auto.lows
+pub shape_of-lows-in-None : goal.shape_of-lows-in-None
+shape_of-lows-in-None c = c.rup_cause-rounds.auto.lows
 
-pub shape_of-highs-in-Nothing : goal.shape_of-highs-in-Nothing
-shape_of-highs-in-Nothing c = c.rup_cause-rounds.auto.highs
+pub shape_of-highs-in-None : goal.shape_of-highs-in-None
+shape_of-highs-in-None c = c.rup_cause-rounds.auto.highs
 
-pub shape_of-heads-in-Nothing : goal.shape_of-heads-in-Nothing
-shape_of-heads-in-Nothing c = c.rup_cause-rounds.auto.heads
+pub shape_of-heads-in-None : goal.shape_of-heads-in-None
+shape_of-heads-in-None c = c.rup_cause-rounds.auto.heads
 
-pub shape_of-links-in-Nothing : goal.shape_of-links-in-Nothing
-shape_of-links-in-Nothing c = c.rup_cause-rounds.auto.links
+pub shape_of-links-in-None : goal.shape_of-links-in-None
+shape_of-links-in-None c = c.rup_cause-rounds.auto.links
 
-pub shape_of-memo-in-Nothing : goal.shape_of-memo-in-Nothing
-shape_of-memo-in-Nothing c = c.rup_cause-rounds.auto.memo
+pub shape_of-memo-in-None : goal.shape_of-memo-in-None
+shape_of-memo-in-None c = c.rup_cause-rounds.auto.memo
 
-pub shape_of-scratch-in-Nothing : goal.shape_of-scratch-in-Nothing
-shape_of-scratch-in-Nothing c = c.rup_cause-rounds.auto.scratch
+pub shape_of-scratch-in-None : goal.shape_of-scratch-in-None
+shape_of-scratch-in-None c = c.rup_cause-rounds.auto.scratch
 
-pub shape_of-fixed-in-Nothing : goal.shape_of-fixed-in-Nothing
-shape_of-fixed-in-Nothing c = c.rup_cause-rounds.auto.fixed
+pub shape_of-fixed-in-None : goal.shape_of-fixed-in-None
+shape_of-fixed-in-None c = c.rup_cause-rounds.auto.fixed
 
-pub returns-in-Nothing : goal.returns-in-Nothing
-returns-in-Nothing c =
+pub returns-in-None : goal.returns-in-None
+returns-in-None c =
     let a = c.rup_cause-rounds.ensures in
-    record { fact_2 = (a.0, first-answer _ _ _ _ _ _ _ _ _ c.in-Nothing.is (refl, refl, a.1)); marks_after = c.requires.fact.1 }
+    record { fact_2 = (a.0, first-answer _ _ _ _ _ _ _ _ _ c.in-None.is (refl, refl, a.1)); marks_after = c.requires.fact.1 }
 
-pub shape_of-vars-in-First : goal.shape_of-vars-in-First
-shape_of-vars-in-First c = c.pr_cause-t.auto.vars
+pub shape_of-vars-in-Some : goal.shape_of-vars-in-Some
+shape_of-vars-in-Some c = c.pr_cause-t.auto.vars
 
-pub shape_of-lows-in-First : goal.shape_of-lows-in-First
-shape_of-lows-in-First c = c.pr_cause-t.auto.lows
+pub shape_of-lows-in-Some : goal.shape_of-lows-in-Some
+shape_of-lows-in-Some c = c.pr_cause-t.auto.lows
 
-pub shape_of-highs-in-First : goal.shape_of-highs-in-First
-shape_of-highs-in-First c = c.pr_cause-t.auto.highs
+pub shape_of-highs-in-Some : goal.shape_of-highs-in-Some
+shape_of-highs-in-Some c = c.pr_cause-t.auto.highs
 
-pub shape_of-heads-in-First : goal.shape_of-heads-in-First
-shape_of-heads-in-First c = c.pr_cause-t.auto.heads
+pub shape_of-heads-in-Some : goal.shape_of-heads-in-Some
+shape_of-heads-in-Some c = c.pr_cause-t.auto.heads
 
-pub shape_of-links-in-First : goal.shape_of-links-in-First
-shape_of-links-in-First c = c.pr_cause-t.auto.links
+pub shape_of-links-in-Some : goal.shape_of-links-in-Some
+shape_of-links-in-Some c = c.pr_cause-t.auto.links
 
-pub shape_of-memo-in-First : goal.shape_of-memo-in-First
-shape_of-memo-in-First c = c.pr_cause-t.auto.memo
+pub shape_of-memo-in-Some : goal.shape_of-memo-in-Some
+shape_of-memo-in-Some c = c.pr_cause-t.auto.memo
 
 pub shape_of-marks : goal.shape_of-marks
 shape_of-marks c = c.pr_cause-t.auto.marks
 
-pub shape_of-scratch-in-First : goal.shape_of-scratch-in-First
-shape_of-scratch-in-First c = c.pr_cause-t.auto.scratch
+pub shape_of-scratch-in-Some : goal.shape_of-scratch-in-Some
+shape_of-scratch-in-Some c = c.pr_cause-t.auto.scratch
 
-pub shape_of-fixed-in-First : goal.shape_of-fixed-in-First
-shape_of-fixed-in-First c = c.pr_cause-t.auto.fixed
+pub shape_of-fixed-in-Some : goal.shape_of-fixed-in-Some
+shape_of-fixed-in-Some c = c.pr_cause-t.auto.fixed
 
-pub returns-in-First : goal.returns-in-First
-returns-in-First c =
+pub returns-in-Some : goal.returns-in-Some
+returns-in-Some c =
     record {
       fact_2 = (
         c.pr_cause-t.ensures.fact_2.0,
-        second-answer _ _ _ _ _ _ _ _ _ _ _ c.in-First.is _ c.witness-w.ensures
+        second-answer _ _ _ _ _ _ _ _ _ _ c.in-Some.is _ c.witness-w.ensures
             (refl, c.pr_cause-t.ensures.fact_2.1),
       );
       marks_after = c.pr_cause-t.ensures.marks_after;

@@ -1,14 +1,9 @@
-use Rattle.pieces.proofs.Ends.{ends-closed, ends_open, ends-refused}
+-- `closed_end`: behind the clause that closes, else the text's length. Assumes nothing.
+use Rattle.pieces.proofs.Ends.{ends-closed, ends-refused}
 use Rattle.pieces.proofs.closed_end.Goals as goal
 
--- src/lib.rt:90:1
-pub returns-in-Closed : goal.returns-in-Closed
-returns-in-Closed c = ends-closed _ _ _ c.open_clause.ensures _ c.in-Closed.is
+pub returns-in-Ok : goal.returns-in-Ok
+returns-in-Ok c = ends-closed _ _ _ c.in-Ok.ensures
 
--- src/lib.rt:90:1
-pub returns-in-End : goal.returns-in-End
-returns-in-End c = ends_open _ _ _ c.open_clause.ensures c.in-End.is
-
--- src/lib.rt:90:1
-pub returns-in-Refused : goal.returns-in-Refused
-returns-in-Refused c = ends-refused _ _ _ c.open_clause.ensures _ _ c.in-Refused.is
+pub returns-in-Err : goal.returns-in-Err
+returns-in-Err c = ends-refused _ _ _ c.in-Err.ensures

@@ -1,5 +1,4 @@
 use mathlib.Core.Path.{refl, sym, ◌∙◌}
-use Prim.Native.Nat.{◌-◌}
 use native.Mathlib.Omega.{arith}
 use Rattle.pieces.proofs.Ends.{line-over, line-stops, line-goes}
 use Rattle.pieces.proofs.line_end.Goals as goal

@@ -1,5 +1,4 @@
 use mathlib.Core.Path.{refl, sym, ◌∙◌}
-use Prim.Native.Nat.{◌-◌}
 use native.Mathlib.Omega.{arith}
 use Rattle.pieces.proofs.Ends.{token-over, token-stops, token-goes}
 use Rattle.pieces.proofs.token_end.Goals as goal

@@ -10,8 +10,8 @@ use Rattle.replay.proofs.read_commands.Given as goal
 
 abbrev pub invariant-loop-at : goal.invariant-loop-at
 invariant-loop-at l =
-    Going (record { form = l.form; consequence = l.consequence }) l.variables (length l.initial.vars) l.proof
-    (proof_from (record { form = l.form; consequence = l.consequence }) l.variables (length l.initial.vars) l.proof
+    Going l.mode l.variables (length l.initial.vars) l.proof
+    (proof_from l.mode l.variables (length l.initial.vars) l.proof
     (state_of (lent_of l.initial.vars l.initial.lows l.initial.highs l.initial.heads l.initial.links l.initial.members l.initial.scratch
     l.initial.struck) l.initial.state))
     (lent_of l.vars l.lows l.highs l.heads l.links l.members l.scratch l.struck) l.marks l.memo l.state l.at

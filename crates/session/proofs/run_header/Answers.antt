@@ -2,25 +2,26 @@
 use mathlib.Core.Path.{sym, ap, ◌∙◌}
 use lib.ListN.{length}
 use Rattle.verdict.specs.Check.{outcome}
+use Rattle.dimacs.proofs.Formula.{header-ok, header-err}
 use Rattle.session.proofs.Finish.{unopened-is, header-bounds, verdict-proper, verdict-improper}
 use Rattle.session.proofs.run_header.Goals as goal
 
 pub run_clauses-requires : goal.run_clauses-requires
 run_clauses-requires c =
-    let b = header-bounds _ _ _ _ (sym c.read_header.ensures ∙ c.in-Proper.is) in
+    let b = header-bounds _ _ _ _ (header-ok _ _ (sym c.read_header.ensures ∙ c.in-Ok.is)) in
     record {
       opened = c.requires.opened;
       variables_bound =
           (b.0, b.1, b.2, c.requires.in_bounds.0, c.requires.in_bounds.1, c.requires.in_bounds.2, c.requires.in_bounds.3);
     }
 
-pub returns-in-Improper : goal.returns-in-Improper
-returns-in-Improper c =
+pub returns-in-Err : goal.returns-in-Err
+returns-in-Err c =
     let a = c.args in
     unopened-is _ _ _ c.requires.opened c.requires.in_bounds.3 (length a.scratch.now) _ _
     ∙ ap (outcome (length a.vars.now) (length a.members.now) (length a.scratch.now))
     (sym (verdict-improper a.mode (length a.vars.now) _ a.proof.now _ _
-    (sym c.read_header.ensures ∙ c.in-Improper.is)))
+    (header-err _ _ (sym c.read_header.ensures ∙ c.in-Err.is))))
 
 pub shape_of-vars : goal.shape_of-vars
 shape_of-vars c =
@@ -62,10 +63,10 @@ pub shape_of-struck : goal.shape_of-struck
 shape_of-struck c =
     c.run_clauses.auto.struck
 
-pub returns-in-Proper : goal.returns-in-Proper
-returns-in-Proper c =
+pub returns-in-Ok : goal.returns-in-Ok
+returns-in-Ok c =
     let a = c.args in
     c.run_clauses.ensures
     ∙ ap (outcome (length a.vars.now) (length a.members.now) (length a.scratch.now))
     (sym (verdict-proper a.mode (length a.vars.now) _ a.proof.now _ _ _
-    (sym c.read_header.ensures ∙ c.in-Proper.is)))
+    (header-ok _ _ (sym c.read_header.ensures ∙ c.in-Ok.is))))

@@ -2,6 +2,7 @@
 use mathlib.Core.Path.{sym, ap, ◌∙◌, subst}
 use mathlib.Core.List.{[]}
 use lib.ListN.{length}
+use Rattle.dimacs.proofs.Formula.{header-ok, header-err}
 use Rattle.dimacs.proofs.Bounds.{HeaderIn, header-in}
 use Rattle.commands.specs.Commands.{in_records}
 use Rattle.verdict.specs.Run.{variables_of}
@@ -16,14 +17,14 @@ read_header-requires c =
 pub read_clauses-requires : goal.read_clauses-requires
 read_clauses-requires c =
     let e =
-    (sym c.read_header.ensures ∙ c.in-Proper.is) in
+    header-ok _ _ (sym c.read_header.ensures ∙ c.in-Ok.is) in
     record { opened = c.requires; variables_bound = subst (HeaderIn c.args.formula.now) e (header-in c.args.formula.now) }
 
-pub returns-in-Improper : goal.returns-in-Improper
-returns-in-Improper c =
+pub returns-in-Err : goal.returns-in-Err
+returns-in-Err c =
     record {
       formula_value = header_refused (length c.args.vars.now) _ _ _
-          (sym c.read_header.ensures ∙ c.in-Improper.is);
+          (header-err _ _ (sym c.read_header.ensures ∙ c.in-Err.is));
       read_by = tt;
     }
 
@@ -54,7 +55,7 @@ shape_of-members-in-Refused c =
 pub returns-in-Refused : goal.returns-in-Refused
 returns-in-Refused c =
     let e =
-    (sym c.read_header.ensures ∙ c.in-Proper.is) in record {
+    header-ok _ _ (sym c.read_header.ensures ∙ c.in-Ok.is) in record {
       formula_value = header-proper (length c.args.vars.now) _ _ _ _ e ∙ c.read_clauses.ensures.from_value in_records []
           ∙ ap (said_from in_records _ [] c.read_clauses.new.vars c.read_clauses.new.lows c.read_clauses.new.highs c.read_clauses.new.heads
           c.read_clauses.new.links c.read_clauses.new.members)
@@ -89,7 +90,7 @@ shape_of-members-in-Begun c =
 pub returns-in-Begun : goal.returns-in-Begun
 returns-in-Begun c =
     let e =
-    (sym c.read_header.ensures ∙ c.in-Proper.is) in let q =
+    header-ok _ _ (sym c.read_header.ensures ∙ c.in-Ok.is) in let q =
     c.in-Begun.is in let B = subst
     (Begins _ c.read_clauses.new.vars c.read_clauses.new.lows c.read_clauses.new.highs c.read_clauses.new.heads c.read_clauses.new.links
     c.read_clauses.new.members) q c.read_clauses.ensures.begins in record {

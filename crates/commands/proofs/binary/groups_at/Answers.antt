@@ -1,8 +1,9 @@
 -- `groups_at`: cut, one group, surplus groups, two groups or more, each by the law of that way. Assumes nothing.
-use mathlib.Core.Path.{refl}
+use mathlib.Core.Path.{refl, ap}
 use Prim.Native.Nat.{◌≤◌, ◌<◌}
 use lib.ListN.{length, get_or}
 use native.Mathlib.Omega.{arith}
+use Rattle.commands.specs.Inner.{coded}
 use Rattle.commands.proofs.Groups.{open-first, read-cut, read-closing, read_one, read_short, read-surplus, read-two, read-many}
 use Rattle.commands.proofs.binary.groups_at.Reads as reads
 use Rattle.commands.proofs.binary.groups_at.Lts as lts
@@ -29,15 +30,15 @@ first-open c =
     (omega (arith, inside c.before.before.before.before.before, c.last_group-last.ensures.lower_bound.0))
 
 pub returns-then-last-s : goal.returns-then-last-s
-returns-then-last-s c = read-cut _ _ _ _ c.last_group-last.ensures.value c.if-last-s.true c.requires.0
+returns-then-last-s c = ap coded (read-cut _ c.args.variables _ _ c.last_group-last.ensures.value c.if-last-s.true c.requires.0)
 
 pub returns-then-top-eq0 : goal.returns-then-top-eq0
-returns-then-top-eq0 c = read-closing _ _ _ _ c.last_group-last.ensures.value (inside c.before.before.before.before) _ refl _ refl
-    c.if-last-at.true c.if-top-eq0.true
+returns-then-top-eq0 c = ap coded (read-closing _ c.args.variables _ _ c.last_group-last.ensures.value (inside c.before.before.before.before) _ refl _ refl
+    c.if-last-at.true c.if-top-eq0.true)
 
 pub returns-then-top-eq1 : goal.returns-then-top-eq1
-returns-then-top-eq1 c = read_one _ _ _ _ c.last_group-last.ensures.value (inside c.before.before.before.before.before) _ refl _ refl
-    c.if-last-at.true c.if-top-eq1.true
+returns-then-top-eq1 c = ap coded (read_one _ c.args.variables _ _ c.last_group-last.ensures.value (inside c.before.before.before.before.before) _ refl _ refl
+    c.if-last-at.true c.if-top-eq1.true)
 
 pub overflow_cast-top : goal.overflow_cast-top
 overflow_cast-top c = omega (
@@ -48,13 +49,13 @@ overflow_cast-top c = omega (
 
 pub returns-then-last-at : goal.returns-then-last-at
 returns-then-last-at c =
-    read_short _ _ _ _ c.last_group-last.ensures.value (inside c.before.before.before.before.before.before) _ refl _ refl
+    rw c.literal_of.ensures (ap coded (read_short _ c.args.variables _ _ c.last_group-last.ensures.value (inside c.before.before.before.before.before.before) _ refl _ refl
     c.if-last-at.true
-    c.if-top-eq0.false c.if-top-eq1.false _ c.literal_of.ensures
+    c.if-top-eq0.false c.if-top-eq1.false _ refl))
 
 pub returns-then-top-eq0-2 : goal.returns-then-top-eq0-2
-returns-then-top-eq0-2 c = read-surplus _ _ _ _ c.last_group-last.ensures.value (inside c.before.before.before.before) _ refl _ refl
-    c.if-last-at.false c.if-top-eq0-2.true
+returns-then-top-eq0-2 c = ap coded (read-surplus _ c.args.variables _ _ c.last_group-last.ensures.value (inside c.before.before.before.before) _ refl _ refl
+    c.if-last-at.false c.if-top-eq0-2.true)
 
 pub overflow_sub-number : goal.overflow_sub-number
 overflow_sub-number c = first-open c.before
@@ -73,12 +74,12 @@ overflow_add-number c = omega (arith, top_byte c.before, low_byte c.before)
 
 pub returns-then-end-at-eq2 : goal.returns-then-end-at-eq2
 returns-then-end-at-eq2 c =
-    read-two _ _ _ _ c.last_group-last.ensures.value (inside c.before.before.before.before.before.before.before) _ refl _ refl
+    rw c.literal_of-then-end-at-eq2.ensures (ap coded (read-two _ c.args.variables _ _ c.last_group-last.ensures.value (inside c.before.before.before.before.before.before.before) _ refl _ refl
     c.if-end-at-eq2.true
-    c.if-top-eq0-2.false _ refl _ c.literal_of-then-end-at-eq2.ensures
+    c.if-top-eq0-2.false _ refl _ refl))
 
 pub returns : goal.returns
 returns c =
-    read-many _ _ _ _ c.last_group-last.ensures.value (inside c.before.before.before.before.before) _ refl _ refl
+    ap coded (read-many _ _ _ _ c.last_group-last.ensures.value (inside c.before.before.before.before.before) _ refl _ refl
     c.if-last-at.false c.if-end-at-eq2.false
-    c.if-top-eq0-2.false c.requires.1
+    c.if-top-eq0-2.false c.requires.1)

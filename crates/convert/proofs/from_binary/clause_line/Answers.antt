@@ -2,7 +2,8 @@
 use mathlib.Core.Path.{refl, subst}
 use Prim.Native.Nat.{◌+◌}
 use mathlib.Core.Bool.{true, false}
-use Rattle.convert.specs.declared.Written.TheVariants.{Refused}
+use Rattle.std.specs.Prelude.{Err}
+use Rattle.dimacs.specs.Inner.{refusal_at}
 use Rattle.convert.specs.Convert.{text_literals, text_line}
 use Rattle.convert.specs.Inner.{Opened, poured, LineWritten}
 use Rattle.convert.proofs.Clauses.{binary_rest}
@@ -30,5 +31,5 @@ returns-then-kind-eq100 c =
 pub returns : goal.returns
 returns c =
     let a = c.args in
-    subst (λ (x : Opened). LineWritten text_line (poured a.out.now a.many) a.out.now x (Refused 9 a.at))
+    subst (λ (x : Opened). LineWritten text_line (poured a.out.now a.many) a.out.now x (Err (refusal_at 9 a.at)))
     (binary-unknown _ _ c.if-kind-eq97.false c.if-kind-eq100.false) (refl, refl)

@@ -9,5 +9,5 @@ pub returns : goal.returns
 returns c =
     c.put.ensures
     ∙ ap (λ (w : Poured). put_byte w 32) (c.put_digits-written.ensures
-    ∙ ap (λ (w : Poured). put_all w (digits_of c.args.variable)) c.put_sign-signed.ensures)
-    ∙ literal-spaced _ c.args.variable c.args.positive
+    ∙ ap (λ (w : Poured). put_all w (digits_of c.args.literal.variable)) c.put_sign-signed.ensures)
+    ∙ literal-spaced _ c.args.literal.variable c.args.literal.positive

@@ -5,7 +5,6 @@ use mathlib.Core.List.{List}
 use Prim.Native.Nat.{ℕ, ◌≤◌, ◌-◌}
 use lib.ListN.{length}
 use Rattle.meaning.specs.Operations as meaning
-use Rattle.dimacs.specs.declared.Token.TheVariants.{Literal}
 use Rattle.convert.specs.Convert.{code_of, groups_of, binary_literals}
 use Rattle.convert.specs.Inner.{poured}
 use Rattle.convert.proofs.Pouring.{Leads}

@@ -17,5 +17,5 @@ returns c =
     c.put-2.ensures ∙ ap (λ (w : Poured). put_byte w 1) c.put-next.ensures
     ∙ groups-long _ _ c.if-number-lt128.false
     (subst (λ (u : ℕ). u < 256) (sym c.code_of-number.ensures)
-    (code-small a.variable a.positive c.requires))
+    (code-small a.literal.variable a.literal.positive c.requires))
     ∙ ap (λ (u : ℕ). put_all (poured a.out.now a.many) (groups_of u)) c.code_of-number.ensures

@@ -2,8 +2,8 @@
 use mathlib.Core.Path.{ap, sym}
 use native.Mathlib.Omega.{arith}
 use borrow.Author.Tests.{lt-ltb, le-ltb}
-use Rattle.dimacs.specs.declared.Header.TheVariants.{Improper}
-use Rattle.dimacs.specs.Header.{header}
+use Rattle.dimacs.specs.Header.{Improper, header}
+use Rattle.dimacs.specs.Inner.{header_read}
 use Rattle.dimacs.proofs.header_line.read_header.Goals as goal
 
 pub returns-then-at-formula : goal.returns-then-at-formula
@@ -12,4 +12,4 @@ returns-then-at-formula c = rw (sym c.judged_line-at.ensures.value, lt-ltb _ _ c
 
 pub returns : goal.returns
 unfolding header
-returns c = rw (sym c.judged_line-at.ensures.value, le-ltb _ _ c.if-at-formula.false) (ap (Improper 1) (omega arith))
+returns c = rw (sym c.judged_line-at.ensures.value, le-ltb _ _ c.if-at-formula.false) (ap (λ p. header_read (Improper 1 p)) (omega arith))

@@ -1,7 +1,6 @@
 -- `read_digits` reads the number of the digits. The loop: the number of all the bytes is that of the bytes left, read after n. The measure
 -- is the bytes left. Assumes nothing.
 use mathlib.Core.Path.{refl, sym, ◌∙◌}
-use Prim.Native.Nat.{◌-◌}
 use native.Mathlib.Omega.{arith}
 use Rattle.dimacs.proofs.Digits.{digit-least, digit-most, digits-end, digits-stop, digits-go}
 use Rattle.dimacs.proofs.numbers.read_digits.Goals as goal

@@ -1,9 +1,11 @@
 -- `signed_token`, test by test. Assumes nothing.
-use borrow.Author.Tests.{lt-ltb, le-ltb, ne_eqb}
+use mathlib.Core.Path.{◌≡◌}
+use native.Mathlib.Omega.{arith}
+use borrow.Author.Tests.{le-ltb, ne_eqb}
+use Rattle.std.specs.Prelude.{Some}
 use Rattle.dimacs.proofs.numbers.signed_token.Goals as goal
 
-pub returns-then-variables-v : goal.returns-then-variables-v
-returns-then-variables-v c = rw (c.in-Value.is, ne_eqb _ _ c.if-v-eq0.false, lt-ltb _ _ c.if-variables-v.true)
-
 pub returns : goal.returns
-returns c = rw (c.in-Value.is, ne_eqb _ _ c.if-v-eq0.false, le-ltb _ _ c.if-variables-v.false)
+returns c =
+    let some : c.args.number ≡ Some c.in_ok-v.v = grind arith in
+    rw (some, ne_eqb _ _ c.if-v-eq0.false, le-ltb c.args.variables c.in_ok-v.v (omega arith))

@@ -1,7 +1,6 @@
 -- `skip_between` passes what lies between two tokens. The loop: what is to be passed is what is left to be passed. The measure is what is
 -- left of the text. Assumes nothing.
 use mathlib.Core.Path.{sym, ◌∙◌, ap}
-use Prim.Native.Nat.{◌-◌}
 use native.Mathlib.Omega.{arith}
 use Rattle.dimacs.specs.Text.{is_comment, line_end}
 use Rattle.dimacs.proofs.Between.{left, between_left, left-comment, between-stop, comment-moves}

@@ -1,20 +1,16 @@
 -- `read_header`: the header, with more than six variables refused. Assumes nothing.
+use Rattle.std.proofs.lemmas.Result.{err_from_is_err_and}
 use Rattle.small.proofs.RunWays.{header-wide, header-narrow, header-improper}
 use Rattle.small.proofs.call.read_header.Goals as goal
 
-pub returns-then-variables-gt6 : goal.returns-then-variables-gt6
-returns-then-variables-gt6 c = header-wide c.args.formula.now c.read_header.result
-    c.read_header.ensures c.in-Proper.variables
-    c.in-Proper.clauses c.in-Proper.end
-    c.in-Proper.is c.if-variables-gt6.true c.judged_line.result c.judged_line.ensures.value
+pub returns-in_err-h : goal.returns-in_err-h
+returns-in_err-h c =
+    let p = err_from_is_err_and c.from_residual.result c.from_residual.ensures.1 in
+    rw (p.1, p.2) (header-improper c.args.formula.now _ c.in_err-h.ensures)
 
-pub returns-in-Improper : goal.returns-in-Improper
-returns-in-Improper c = header-improper c.args.formula.now c.read_header.result
-    c.read_header.ensures c.in-Improper.number c.in-Improper.place
-    c.in-Improper.is
+pub returns-then-h-gt6 : goal.returns-then-h-gt6
+returns-then-h-gt6 c =
+    header-wide c.args.formula.now _ c.in_ok-h.ensures c.if-h-gt6.true _ c.judged_line.ensures.value
 
-pub returns-else-variables-gt6 : goal.returns-else-variables-gt6
-returns-else-variables-gt6 c = header-narrow c.args.formula.now c.read_header.result
-    c.read_header.ensures c.in-Proper.variables
-    c.in-Proper.clauses c.in-Proper.end
-    c.in-Proper.is c.if-variables-gt6.false
+pub returns : goal.returns
+returns c = header-narrow c.args.formula.now _ c.in_ok-h.ensures c.if-h-gt6.false

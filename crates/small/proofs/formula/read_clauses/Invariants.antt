@@ -5,9 +5,9 @@ use lib.ListN.{length}
 use Rattle.small.proofs.RunWays.{Building}
 use Rattle.small.proofs.formula.read_clauses.Given as goal
 
-abbrev pub invariant-loop-number : goal.invariant-loop-number
-invariant-loop-number l = Building l.variables l.wanted l.from l.formula l.members l.made l.at ×
+abbrev pub invariant-loop-c : goal.invariant-loop-c
+invariant-loop-c l = Building l.variables l.wanted l.from l.formula l.members l.made l.at ×
     (length l.members ≡ length l.initial.members)
 
-abbrev pub decreases-loop-number : goal.decreases-loop-number
-decreases-loop-number l = l.wanted - l.made
+abbrev pub decreases-loop-c : goal.decreases-loop-c
+decreases-loop-c l = l.wanted - l.made

@@ -46,7 +46,7 @@ module _ (s : lts.Start tie.the-claims reads.Pre reads.Post tie.handed_clauses) 
       × Unit {0}
 
 pub witness-w-requires : goal.witness-w-requires
-witness-w-requires c = subst PivotFits c.in-First.is c.requires.6
+witness-w-requires c = subst PivotFits c.in-Some.is c.requires.6
 
 pub try_line-requires : goal.try_line-requires
 try_line-requires c =
@@ -54,8 +54,8 @@ try_line-requires c =
     subst (Asked c12.before.before.before.before.before.before.before.before.before.before.before) (sym c.with_witness.ensures)
     (c.requires.0, c.requires.1, c.requires.2, c.requires.3, c.requires.4, c.requires.5, tt)
 
-pub returns-in-Nothing : goal.returns-in-Nothing
-returns-in-Nothing c = record { fact = (refl, second_none _ _ _ _ _ c.in-Nothing.is); marks_after = c.requires.1 }
+pub returns-in-None : goal.returns-in-None
+returns-in-None c = record { fact = (refl, second_none _ _ _ _ _ c.in-None.is); marks_after = c.requires.1 }
 
 pub shape_of-vars : goal.shape_of-vars
 shape_of-vars c = c.try_line.auto.vars
@@ -81,8 +81,8 @@ shape_of-marks c = c.try_line.auto.marks
 pub shape_of-scratch : goal.shape_of-scratch
 shape_of-scratch c = c.try_line.auto.scratch
 
-pub returns-in-First : goal.returns-in-First
-returns-in-First c =
+pub returns-in-Some : goal.returns-in-Some
+returns-in-Some c =
     let c12 = c.before.before.before.before.before.before.before.before.before.before.before.before in
     let c24 = c12.before.before.before.before.before.before.before.before.before.before.before.before in
     let c36 = c24.before.before.before.before.before.before.before.before.before.before.before.before in
@@ -91,7 +91,7 @@ returns-in-First c =
     let told = subst (Told s a) c.with_witness.ensures c.try_line.ensures.fact in record {
       fact = (
         told.0,
-        second-tried _ _ _ _ _ _ _ c.in-First.is _ c.witness-w.ensures _
+        second-tried _ _ _ _ _ _ c.in-Some.is _ c.witness-w.ensures _
             told.1,
       );
       marks_after = c.try_line.ensures.marks_after;

@@ -2,7 +2,7 @@
 use mathlib.Core.Path.{refl}
 use native.Mathlib.Omega.{arith}
 use Rattle.steps.proofs.Lines.{held-64}
-use Rattle.tries.proofs.Commands.{says-recorded, says-added, says-struck, says-wrong, says-finished, says-as, pivot-of}
+use Rattle.tries.proofs.Commands.{says-recorded, says-added, says-struck, says-finished, says-as, pivot-of}
 use Rattle.tries.proofs.command.command_step.Goals as goal
 
 pub record_step-requires : goal.record_step-requires
@@ -125,10 +125,6 @@ returns-in-Struck c =
           (says-struck _ _ _ _ _ _ _ (λ ls. c.strike_clause.ensures _ c.args.scratch.now ls c.requires.0));
       marks_after = c.requires.1;
     }
-
-pub returns-in-Wrong : goal.returns-in-Wrong
-returns-in-Wrong c =
-    record { stepped = says-as _ _ _ _ _ _ _ _ c.in-Wrong.is (says-wrong _ _ _ _ _ _); marks_after = c.requires.1 }
 
 pub returns-in-Finished : goal.returns-in-Finished
 returns-in-Finished c = record {
