@@ -12,7 +12,7 @@ use Rattle.records.specs.declared.Rule.{Rule}
 use Rattle.records.specs.declared.Rule.TheVariants.{Pr}
 use Rattle.commands.specs.declared.DratClause.{DratClause}
 use Rattle.commands.specs.declared.Command as code
-use Rattle.commands.specs.Commands.{Command, added}
+use Rattle.commands.specs.Commands.{Command}
 use Rattle.verdict.specs.Steps as check
 use Rattle.verdict.specs.Steps.{entry_node, diagram_in}
 use Rattle.verdict.specs.Check.{zeros}

@@ -25,11 +25,11 @@ use Rattle.std.specs.Prelude.{Option, Ok, Err}
 use Rattle.std.specs.Result.{result_ok}
 use Rattle.dimacs.specs.Inner.{refusal_at}
 use Rattle.commands.specs.Commands.{Command, recorded, added, struck_out, wrong, finished}
-use Rattle.commands.specs.Inner.{clause_words, command_of}
+use Rattle.commands.specs.Inner.{clause_words}
 use Rattle.verdict.specs.Steps.{State, Step, stop, spent, entry_node, diagram_in, node_step, line_step, record_step}
 use Rattle.verdict.specs.Clausal.{add_step}
 use Rattle.verdict.specs.Check.{shut_out, step}
-use Rattle.profile.specs.Admitted.{tried_as, admitted}
+use Rattle.profile.specs.Admitted.{tried_as}
 use Rattle.tries.specs.Commands.{CommandFits}
 use Rattle.causes.specs.Causes.{Cause, plain, variables_of, line_cause, record_cause, clause_cause, cause}
 use Rattle.causes.proofs.Causes.{has_cause, cause-plain}

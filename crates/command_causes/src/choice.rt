@@ -66,10 +66,12 @@ pub fn command_choice(number: u8, command: Option<Command>) -> Refused
     ensures { result ≡ command_choice number command }
 {
     match command {
-        Some(Command::Recorded {
-            record: rec,
-            more: _,
-        }) => record_choice(number, rec),
+        Some(
+            Command::Recorded {
+                record: rec,
+                more: _,
+            },
+        ) => record_choice(number, rec),
         Some(Command::Added(clause)) => clause_choice(number, clause),
         Some(Command::Struck(_)) => Refused::Plain,
         Some(Command::Finished) => Refused::Plain,

@@ -15,8 +15,9 @@ use crate::{Cause, Refused};
 use commands::Command;
 use state::State;
 
-// Of the command as it is admitted, if it is, within the consequence profile or without it, in the state held, for the number that it is refused
-// with; 19's literals are told in `fixed`. What is made is dropped: table and marks are then as before; the scratch list is then anything.
+// Of the command as it is admitted, if it is, within the consequence profile or without it, in the state held, for the number that it is
+// refused with; 19's literals are told in `fixed`. What is made is dropped: table and marks are then as before; the scratch list is then
+// anything.
 pub fn cause(
     vars: &mut [u8],
     lows: &mut [u16],

@@ -54,7 +54,8 @@ written_to next many = record { next = next; many = many }
 
 -- What is left after a clause, by what its reader says of it: the bytes that it prints, or its refusal.
 abbrev pub ClauseWritten : (List Literal → List ℕ) → Poured → List ℕ → Next → Result Written Refusal → Type 0
-ClauseWritten prints w out (closed ls first next) r = (many : ℕ) × (r ≡ Ok (written_to next many)) × (poured out many ≡ put_all w (prints ls))
+ClauseWritten prints w out (closed ls first next) r = (many : ℕ) × (r ≡ Ok (written_to next many))
+    × (poured out many ≡ put_all w (prints ls))
 ClauseWritten prints w out (refused number place) r = (r ≡ Err (refusal_at number place)) × (length out ≡ length w.output)
 ClauseWritten prints w out ended r = ⊥
 

@@ -1,7 +1,7 @@
 -- The step of a command is that of its kind: one law a kind, for the command as the code has it. The idea: the code's command tells the
 -- definition's. Assumes nothing.
 use Rattle.profile.specs.Admitted.{tried_as, admitted}
-use mathlib.Core.Path.{◌≡◌, sym, ap, subst, refl}
+use mathlib.Core.Path.{◌≡◌, sym, subst, refl}
 use mathlib.Core.Bool.{Bool, true, false, cond}
 use mathlib.Core.List.{List, [], ◌∷◌}
 use Prim.Native.Nat.{ℕ, ◌≤◌}

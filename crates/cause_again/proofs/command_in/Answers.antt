@@ -1,6 +1,4 @@
 -- `command_in`: the command, where it is let in. Assumes nothing.
-use mathlib.Core.Path.{◌≡◌, sym}
-use Rattle.std.specs.Prelude.{Ok, Err}
 use Rattle.commands.specs.Commands.{command_at}
 use Rattle.commands.specs.Inner.{command_of}
 use Rattle.commands.proofs.Answered.{read-ok, read-err}

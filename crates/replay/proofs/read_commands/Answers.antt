@@ -1,10 +1,9 @@
 -- `read_commands` says what the definition says of the proof: at the loop's head what is to be said is what is left to be said (Going).
 -- Assumes nothing.
-use mathlib.Core.Path.{refl, ap, ◌∙◌}
-use Prim.Native.Nat.{ℕ, ◌-◌, ◌^◌, ◌≤◌, ◌<◌}
+use mathlib.Core.Path.{refl, ◌∙◌}
+use Prim.Native.Nat.{◌-◌}
 use native.Mathlib.Omega.{arith}
-use lib.ListN.{length}
-use Rattle.state.specs.States.{Lent, lent_of}
+use Rattle.state.specs.States.{lent_of}
 use Rattle.replay.proofs.Going.{going_start, going-asks, going-reads, going-near, going-stop, going-spent, next-in}
 use Rattle.replay.proofs.Going.{going_next, going-refused, next_is}
 use Rattle.replay.proofs.read_commands.Goals as goal
@@ -63,7 +62,8 @@ overflow_add-result c =
     c.command_step.new.links c.command_step.new.members c.command_step.new.scratch c.command_step.new.struck) _
     (going-reads _ _ _ _ _ _ _ _ _ _ c.loop-at.invariant.0 _ c.in-Ok.ensures
     (lent_of c.command_step.new.vars c.command_step.new.lows c.command_step.new.highs c.command_step.new.heads
-    c.command_step.new.links c.command_step.new.members c.command_step.new.scratch c.command_step.new.struck) _ c.command_step.ensures.stepped) _ _
+    c.command_step.new.links c.command_step.new.members c.command_step.new.scratch c.command_step.new.struck) _
+    c.command_step.ensures.stepped) _ _
     c.in-Stop.is in
     omega (arith, near)
 
@@ -112,10 +112,12 @@ returns-in-Stop c =
     let all = let G = c.loop-at.invariant.0 in
     let X = going-reads _ _ _ _ _ _ _ _ _ _ G _ c.in-Ok.ensures
     (lent_of c.command_step.new.vars c.command_step.new.lows c.command_step.new.highs c.command_step.new.heads
-    c.command_step.new.links c.command_step.new.members c.command_step.new.scratch c.command_step.new.struck) _ c.command_step.ensures.stepped in
+    c.command_step.new.links c.command_step.new.members c.command_step.new.scratch c.command_step.new.struck) _
+    c.command_step.ensures.stepped in
     going-stop _ _ _ _ _ _ _ _ _ _ G
     (lent_of c.command_step.new.vars c.command_step.new.lows c.command_step.new.highs c.command_step.new.heads
-    c.command_step.new.links c.command_step.new.members c.command_step.new.scratch c.command_step.new.struck) _ X _ _ c.in-Stop.is in record { first_after = all.0; fact = all.1 }
+    c.command_step.new.links c.command_step.new.members c.command_step.new.scratch c.command_step.new.struck) _ X _ _ c.in-Stop.is in
+    record { first_after = all.0; fact = all.1 }
 
 pub shape_of-vars-in-Spent : goal.shape_of-vars-in-Spent
 shape_of-vars-in-Spent c =
@@ -162,17 +164,20 @@ returns-in-Spent c =
     let all = let G = c.loop-at.invariant.0 in
     let X = going-reads _ _ _ _ _ _ _ _ _ _ G _ c.in-Ok.ensures
     (lent_of c.command_step.new.vars c.command_step.new.lows c.command_step.new.highs c.command_step.new.heads
-    c.command_step.new.links c.command_step.new.members c.command_step.new.scratch c.command_step.new.struck) _ c.command_step.ensures.stepped in
+    c.command_step.new.links c.command_step.new.members c.command_step.new.scratch c.command_step.new.struck) _
+    c.command_step.ensures.stepped in
     going-spent _ _ _ _ _ _ _ _ _ _ G
     (lent_of c.command_step.new.vars c.command_step.new.lows c.command_step.new.highs c.command_step.new.heads
-    c.command_step.new.links c.command_step.new.members c.command_step.new.scratch c.command_step.new.struck) _ X _ _ c.in-Spent.is in record { first_after = all.0; fact = all.1 }
+    c.command_step.new.links c.command_step.new.members c.command_step.new.scratch c.command_step.new.struck) _ X _ _ c.in-Spent.is in
+    record { first_after = all.0; fact = all.1 }
 
 pub loop-at-smaller : goal.loop-at-smaller
 loop-at-smaller c =
     let G = c.loop-at.invariant.0 in
     let X = going-reads _ _ _ _ _ _ _ _ _ _ G _ c.in-Ok.ensures
     (lent_of c.command_step.new.vars c.command_step.new.lows c.command_step.new.highs c.command_step.new.heads
-    c.command_step.new.links c.command_step.new.members c.command_step.new.scratch c.command_step.new.struck) _ c.command_step.ensures.stepped in
+    c.command_step.new.links c.command_step.new.members c.command_step.new.scratch c.command_step.new.struck) _
+    c.command_step.ensures.stepped in
     let next = next-in _ _ _ _ _ _ _ _ _ _ G
     (lent_of c.command_step.new.vars c.command_step.new.lows c.command_step.new.highs c.command_step.new.heads
     c.command_step.new.links c.command_step.new.members c.command_step.new.scratch c.command_step.new.struck) _ X _ c.in-Next.is in
@@ -184,7 +189,8 @@ loop-at-preserved c =
     let G = c.loop-at.invariant.0 in
     let X = going-reads _ _ _ _ _ _ _ _ _ _ G _ c.in-Ok.ensures
     (lent_of c.command_step.new.vars c.command_step.new.lows c.command_step.new.highs c.command_step.new.heads
-    c.command_step.new.links c.command_step.new.members c.command_step.new.scratch c.command_step.new.struck) _ c.command_step.ensures.stepped in
+    c.command_step.new.links c.command_step.new.members c.command_step.new.scratch c.command_step.new.struck) _
+    c.command_step.ensures.stepped in
     let is = next_is _ _ _ _ _ _ _ _ _ _ G _ c.in-Ok.ensures in
     let on = going_next _ _ _ _ _ _ _ _ _ _ G
     (lent_of c.command_step.new.vars c.command_step.new.lows c.command_step.new.highs c.command_step.new.heads

@@ -33,11 +33,13 @@ pub returns-then-last-s : goal.returns-then-last-s
 returns-then-last-s c = ap coded (read-cut _ c.args.variables _ _ c.last_group-last.ensures.value c.if-last-s.true c.requires.0)
 
 pub returns-then-top-eq0 : goal.returns-then-top-eq0
-returns-then-top-eq0 c = ap coded (read-closing _ c.args.variables _ _ c.last_group-last.ensures.value (inside c.before.before.before.before) _ refl _ refl
+returns-then-top-eq0 c = ap coded (read-closing _ c.args.variables _ _ c.last_group-last.ensures.value
+    (inside c.before.before.before.before) _ refl _ refl
     c.if-last-at.true c.if-top-eq0.true)
 
 pub returns-then-top-eq1 : goal.returns-then-top-eq1
-returns-then-top-eq1 c = ap coded (read_one _ c.args.variables _ _ c.last_group-last.ensures.value (inside c.before.before.before.before.before) _ refl _ refl
+returns-then-top-eq1 c = ap coded (read_one _ c.args.variables _ _ c.last_group-last.ensures.value
+    (inside c.before.before.before.before.before) _ refl _ refl
     c.if-last-at.true c.if-top-eq1.true)
 
 pub overflow_cast-top : goal.overflow_cast-top
@@ -49,12 +51,14 @@ overflow_cast-top c = omega (
 
 pub returns-then-last-at : goal.returns-then-last-at
 returns-then-last-at c =
-    rw c.literal_of.ensures (ap coded (read_short _ c.args.variables _ _ c.last_group-last.ensures.value (inside c.before.before.before.before.before.before) _ refl _ refl
+    rw c.literal_of.ensures (ap coded (read_short _ c.args.variables _ _ c.last_group-last.ensures.value
+    (inside c.before.before.before.before.before.before) _ refl _ refl
     c.if-last-at.true
     c.if-top-eq0.false c.if-top-eq1.false _ refl))
 
 pub returns-then-top-eq0-2 : goal.returns-then-top-eq0-2
-returns-then-top-eq0-2 c = ap coded (read-surplus _ c.args.variables _ _ c.last_group-last.ensures.value (inside c.before.before.before.before) _ refl _ refl
+returns-then-top-eq0-2 c = ap coded (read-surplus _ c.args.variables _ _ c.last_group-last.ensures.value
+    (inside c.before.before.before.before) _ refl _ refl
     c.if-last-at.false c.if-top-eq0-2.true)
 
 pub overflow_sub-number : goal.overflow_sub-number
@@ -74,7 +78,9 @@ overflow_add-number c = omega (arith, top_byte c.before, low_byte c.before)
 
 pub returns-then-end-at-eq2 : goal.returns-then-end-at-eq2
 returns-then-end-at-eq2 c =
-    rw c.literal_of-then-end-at-eq2.ensures (ap coded (read-two _ c.args.variables _ _ c.last_group-last.ensures.value (inside c.before.before.before.before.before.before.before) _ refl _ refl
+    rw c.literal_of-then-end-at-eq2.ensures (ap coded
+    (read-two _ c.args.variables _ _ c.last_group-last.ensures.value (inside c.before.before.before.before.before.before.before) _ refl
+    _ refl
     c.if-end-at-eq2.true
     c.if-top-eq0-2.false _ refl _ refl))
 

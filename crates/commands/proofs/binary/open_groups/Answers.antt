@@ -14,7 +14,8 @@ loop-at-init c = (omega arith, refl)
 pub returns-in-Ok-None : goal.returns-in-Ok-None
 returns-in-Ok-None c = sym
     (c.loop-at.invariant.1
-    ∙ rest-closing _ _ _ _ c.groups_at-groups.ensures _ _ c.loop-at-test.true _ c.in-Ok-None.is (rw c.in-Ok-None.is at c.in-Ok-None.field-0-is))
+    ∙ rest-closing _ _ _ _ c.groups_at-groups.ensures _ _ c.loop-at-test.true _ c.in-Ok-None.is
+    (rw c.in-Ok-None.is at c.in-Ok-None.field-0-is))
 
 pub returns-in-Err : goal.returns-in-Err
 returns-in-Err c = sym
@@ -24,20 +25,24 @@ returns-in-Err c = sym
 
 pub with_literal-literals-requires : goal.with_literal-literals-requires
 with_literal-literals-requires c =
-    let l = literal-in c.args.s.now c.args.variables c.loop-at.at _ c.groups_at-groups.ensures _ _ c.in-Ok-Some.is (rw c.in-Ok-Some.is at c.in-Ok-Some.field-0-is) in
+    let l = literal-in c.args.s.now c.args.variables c.loop-at.at _ c.groups_at-groups.ensures _ _ c.in-Ok-Some.is
+    (rw c.in-Ok-Some.is at c.in-Ok-Some.field-0-is) in
     (l.least, omega (arith, l.most))
 
 pub loop-at-smaller : goal.loop-at-smaller
 loop-at-smaller c =
-    let l = literal-in c.args.s.now c.args.variables c.loop-at.at _ c.groups_at-groups.ensures _ _ c.in-Ok-Some.is (rw c.in-Ok-Some.is at c.in-Ok-Some.field-0-is) in
+    let l = literal-in c.args.s.now c.args.variables c.loop-at.at _ c.groups_at-groups.ensures _ _ c.in-Ok-Some.is
+    (rw c.in-Ok-Some.is at c.in-Ok-Some.field-0-is) in
     omega (arith, l.moves)
 
 pub loop-at-preserved : goal.loop-at-preserved
 loop-at-preserved c =
-    let l = literal-in c.args.s.now c.args.variables c.loop-at.at _ c.groups_at-groups.ensures _ _ c.in-Ok-Some.is (rw c.in-Ok-Some.is at c.in-Ok-Some.field-0-is) in (
+    let l = literal-in c.args.s.now c.args.variables c.loop-at.at _ c.groups_at-groups.ensures _ _ c.in-Ok-Some.is
+    (rw c.in-Ok-Some.is at c.in-Ok-Some.field-0-is) in (
       l.within,
       c.loop-at.invariant.1
-          ∙ rest-literal _ _ _ _ c.groups_at-groups.ensures _ _ c.loop-at-test.true _ _ _ c.in-Ok-Some.is (rw c.in-Ok-Some.is at c.in-Ok-Some.field-0-is)
+          ∙ rest-literal _ _ _ _ c.groups_at-groups.ensures _ _ c.loop-at-test.true _ _ _ c.in-Ok-Some.is
+          (rw c.in-Ok-Some.is at c.in-Ok-Some.field-0-is)
           c.with_literal-literals.ensures,
     )
 
