@@ -14,9 +14,7 @@ use Rattle.dimacs.specs.Clauses.{Next, closed, ended, refused, clause_from}
 use Rattle.words.specs.Sets.{literals_of}
 use Rattle.dimacs.specs.Inner.{clause_after, open_of, closed_with}
 use Rattle.dimacs.proofs.Runs.{past_end, past_stop, past-go}
-use Rattle.records.specs.declared.Record.{Record}
-use Rattle.records.specs.Records.{record_at, length_of, number_of}
-use Rattle.causes.specs.Parts.{record_end, closed_end, clause_end}
+use Rattle.causes.specs.Parts.{closed_end, clause_end}
 
 module _ (s : List ℕ) (at : ℕ) where
   pub token-over : length s ≤ at → at ≡ token_end s at
@@ -65,13 +63,3 @@ module _ (s : List ℕ) (at : ℕ) where
   pub clause-none : length s ≤ at → length s ≡ clause_end s at
   unfolding clause_end
   clause-none h = rw (le-ltb at (length s) h)
-
-module _ (s : List ℕ) (at : ℕ) (r : Record) (is : r ≡ record_at s at) (k : ℕ) (said : k ≡ number_of r) where
-  pub record-whole : (n : ℕ) → n ≡ length_of r → k ≡ 0 → at + n ≡ record_end s at (record_at s at)
-  record-whole n e z = rw (e, sym is, eq-eqb (number_of r) 0 (sym said ∙ z))
-
-  pub record-unknown : (k ≡ 0 → ⊥) → k ≡ 9 → at + 1 ≡ record_end s at (record_at s at)
-  record-unknown nz e = rw (sym is, ne_eqb (number_of r) 0 (λ q. nz (said ∙ q)), eq-eqb (number_of r) 9 (sym said ∙ e))
-
-  pub record-cut : (k ≡ 0 → ⊥) → (k ≡ 9 → ⊥) → length s ≡ record_end s at (record_at s at)
-  record-cut nz n9 = rw (sym is, ne_eqb (number_of r) 0 (λ q. nz (said ∙ q)), ne_eqb (number_of r) 9 (λ q. n9 (said ∙ q)))

@@ -4,7 +4,7 @@
 ghost use Rattle.std.specs.Prelude.{◌≡◌, true, ◌-◌, ◌≤◌, length, drop};
 ghost use Rattle.dimacs.specs.Text.{is_parting, token_end, line_end};
 ghost use Rattle.dimacs.specs.Clauses.{clause_from};
-ghost use Rattle.records.specs.Records.{record_at, number_of};
+ghost use Rattle.records.specs.Records.{record_at};
 ghost use Rattle.commands.specs.Commands.{groups_in, binary_read};
 ghost use Rattle.causes.specs.Parts.{formula_end, record_end, closed_end, clause_end, groups_end, read_end, binary_end, proof_end};
 ghost use Rattle.causes.specs.Shows.{text_of};
@@ -25,16 +25,7 @@ pub struct Part {
 fn parts(b: u8) -> bool
     ensures { result ≡ is_parting b }
 {
-    if b == 32 {
-        return true;
-    }
-    if b == 9 {
-        return true;
-    }
-    if b == 13 {
-        return true;
-    }
-    b == 10
+    matches!(b, b' ' | b'\t' | b'\r' | b'\n')
 }
 
 // The end of the token in which the place is.
@@ -42,14 +33,12 @@ fn token_end(s: &[u8], at: usize) -> usize
     requires { at ≤ length s.now }
     ensures { result ≡ token_end s.now at }
 {
-    let mut i = at;
-    while i < s.len() {
+    for i in at..s.len() {
         if parts(s[i]) {
             return i;
         }
-        i += 1;
     }
-    i
+    s.len()
 }
 
 // The end of the line in which the place is, its LF left out.
@@ -57,14 +46,12 @@ fn line_end(s: &[u8], at: usize) -> usize
     requires { at ≤ length s.now }
     ensures { result ≡ line_end s.now at }
 {
-    let mut i = at;
-    while i < s.len() {
-        if s[i] == 10 {
+    for i in at..s.len() {
+        if s[i] == b'\n' {
             return i;
         }
-        i += 1;
     }
-    i
+    s.len()
 }
 
 // The end of the piece of the formula that starts at the place of a number.
@@ -78,37 +65,17 @@ fn formula_end(s: &[u8], number: u8, at: usize) -> usize
     token_end(s, at)
 }
 
-// The number that the form of a record gives; 0 where it is right.
-fn form_number(r: Record) -> u8
-    ensures { result ≡ number_of r }
-{
-    match r {
-        Record::NodeEntry(_) => 0,
-        Record::Witness { .. } => 0,
-        Record::ProofLine { .. } => 0,
-        Record::Strike(_) => 0,
-        Record::SetEntry { .. } => 0,
-        Record::End => 0,
-        Record::CutShort => 10,
-        Record::UnknownKind => 9,
-        Record::NoRecord => 10,
-    }
-}
-
 // The end of the record whose first byte is at `at`.
 fn record_end(s: &[u8], at: usize) -> usize
     requires { at ≤ length s.now }
     ensures { result ≡ record_end s.now at (record_at s.now at) }
 {
     let record = records::record_from(s, at);
-    let number = form_number(record);
-    if number == 0 {
-        return at + records::record_length(record);
+    match record {
+        Record::UnknownKind => at + 1,
+        Record::CutShort | Record::NoRecord => s.len(),
+        _ => at + records::record_length(record),
     }
-    if number == 9 {
-        return at + 1;
-    }
-    s.len()
 }
 
 // The end of the clause whose literals stand from `from` on.
@@ -123,13 +90,13 @@ fn closed_end(s: &[u8], at: usize, from: usize) -> usize
     }
 }
 
-// The end of the clause whose first byte, or whose `d`, is at `at`. 100 is `d`.
+// The end of the clause whose first byte, or whose `d`, is at `at`.
 fn clause_end(s: &[u8], at: usize) -> usize
     requires { at ≤ length s.now }
     ensures { result ≡ clause_end s.now at }
 {
     if at < s.len() {
-        if dimacs::is_letter(s, at, 100) {
+        if dimacs::is_letter(s, at, b'd') {
             let from = dimacs::skip_between(s, at + 1);
             return closed_end(s, at, from);
         }
@@ -171,6 +138,7 @@ fn binary_end(s: &[u8], number: u8, at: usize) -> usize
     requires { at ≤ length s.now }
     ensures { result ≡ binary_end number s.now at }
 {
+    // Not `match number`: behind an arm with a guard the proof of the last arm does not know which numbers it leaves.
     if number == 9 {
         if at < s.len() {
             return at + 1;
@@ -191,18 +159,10 @@ fn proof_end(s: &[u8], form: Form, number: u8, at: usize) -> usize
     ensures { result ≡ proof_end form number s.now at }
 {
     match form {
-        Form::Records => {
-            if number == 11 {
-                return at + 1;
-            }
-            record_end(s, at)
-        }
-        Form::Text => {
-            if number <= 4 {
-                return token_end(s, at);
-            }
-            clause_end(s, at)
-        }
+        Form::Records if number == 11 => at + 1,
+        Form::Records => record_end(s, at),
+        Form::Text if number <= 4 => token_end(s, at),
+        Form::Text => clause_end(s, at),
         Form::Binary => binary_end(s, number, at),
     }
 }
@@ -231,22 +191,10 @@ pub fn shown<'a>(formula: &'a [u8], proof: &'a [u8], part: Part) -> &'a [u8]
     ensures ref_ptr_value { is_part part (text_of part.in_proof formula.now proof.now) ≡ true →
         result.ref_ptr ≡ place_in (text_of part.in_proof formula.entry proof.entry) part.start }
 {
-    let from = part.start;
-    let to = part.end;
-    if part.in_proof {
-        if to < from {
-            return &proof[..0];
-        }
-        if proof.len() < to {
-            return &proof[..0];
-        }
-        return &proof[from..to];
+    let text = if part.in_proof { proof } else { formula };
+    if part.start <= part.end && part.end <= text.len() {
+        &text[part.start..part.end]
+    } else {
+        &text[..0]
     }
-    if to < from {
-        return &formula[..0];
-    }
-    if formula.len() < to {
-        return &formula[..0];
-    }
-    &formula[from..to]
 }

@@ -1,11 +1,7 @@
+-- The walk to the end of a token: the token in which the place is ends where that of the place reached does. Assumes nothing.
 use mathlib.Core.Path.{◌≡◌}
-use Prim.Native.Nat.{◌≤◌, ◌-◌}
-use lib.ListN.{length}
 use Rattle.dimacs.specs.Text.{token_end}
 use Rattle.pieces.proofs.token_end.Given as goal
 
 abbrev pub invariant-loop-i : goal.invariant-loop-i
-invariant-loop-i l = (l.at ≤ l.i) × (l.i ≤ length l.s) × (token_end l.s l.at ≡ token_end l.s l.i)
-
-abbrev pub decreases-loop-i : goal.decreases-loop-i
-decreases-loop-i l = length l.s - l.i
+invariant-loop-i l = token_end l.s l.at ≡ token_end l.s l.i
