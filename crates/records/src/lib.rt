@@ -55,6 +55,7 @@ pub enum Record {
     // An entry of a set's diagram.
     SetEntry { kind: SetKind, body: SetBody },
     End,
+    // What cannot be read is a kind too, and no Err: `verdict` and `demands` define by cases on the record where its number comes.
     // The kind byte is there, not its whole body.
     CutShort,
     UnknownKind,
