@@ -1,32 +1,23 @@
 -- What is kept for a book stands for that book, and where a call leaves the book as it was every field is as it was lent. The idea: only
 -- the stage's byte and that of `refuted` have more than one form, and a lent form is kept. Assumes nothing.
-use mathlib.Core.Path.{◌≡◌, refl, sym, ap, ap₂, ◌∙◌}
+use mathlib.Core.Path.{◌≡◌, refl, sym, ap, ap₂}
 use mathlib.Core.Logic.{◌≢◌}
 use mathlib.Core.Bool.{Bool, true, false, not, cond}
-use Prim.Native.Nat.{ℕ, ◌≤◌, ◌<◌}
+use Prim.Native.Nat.{ℕ, ◌≤◌}
 use native.Mathlib.Omega.{arith}
 use lib.Dec.{eqb, ltb}
-use borrow.Author.Tests.{eq-eqb, ne_eqb, lt-ltb, le-ltb, ltb-false, eqb-true, eqb-false}
+use borrow.Author.Tests.{ne_eqb, le-ltb, ltb-false, eqb-true, eqb-false}
 use Rattle.shares.specs.declared.Stage.{Stage}
 use Rattle.shares.specs.declared.Stage.TheVariants.{Formula, Lines, Bound}
 use Rattle.shares.specs.declared.Book.{Book}
 use Rattle.book_kept.specs.declared.Kept.{Kept}
-use Rattle.book_kept.specs.Kept.{stage_of, book_of, bound_byte, flag_byte, kept_with, kept_at, kept_as, opened_kept, kept_opened}
+use Rattle.book_kept.specs.Kept.{stage_of, book_of, bound_byte, flag_byte, kept_with, kept_at, kept_as}
 
 -- ---- the stage
 
 module _ (stage number place : ℕ) where
-  pub is-formula : stage ≡ 0 → Formula ≡ stage_of stage number place
-  is-formula e = rw (eq-eqb stage 0 e)
-
-  pub is-lines : stage ≢ 0 → stage ≡ 1 → Lines ≡ stage_of stage number place
-  is-lines n e = rw (ne_eqb stage 0 n, eq-eqb stage 1 e)
-
   pub is_bound : stage ≢ 0 → stage ≢ 1 → Bound number place ≡ stage_of stage number place
   is_bound n m = rw (ne_eqb stage 0 n, ne_eqb stage 1 m)
-
-pub bound-low : (lent : ℕ) → lent < 2 → ◌≡◌ {A = ℕ} 2 (bound_byte lent)
-bound-low lent p = rw (lt-ltb lent 2 p)
 
 pub bound-high : (lent : ℕ) → 2 ≤ lent → lent ≡ bound_byte lent
 bound-high lent p = rw (le-ltb lent 2 p)
@@ -54,15 +45,6 @@ staged b g refuted = record {
 
 -- ---- `refuted`
 
-pub flag-none : (lent : ℕ) (f : Bool) → f ≡ false → ◌≡◌ {A = ℕ} 0 (flag_byte lent f)
-flag-none lent f e = rw e refl
-
-pub flag-new : (lent : ℕ) (f : Bool) → f ≡ true → lent ≡ 0 → ◌≡◌ {A = ℕ} 1 (flag_byte lent f)
-flag-new lent f e z = rw (e, eq-eqb lent 0 z)
-
-pub flag-lent : (lent : ℕ) (f : Bool) → f ≡ true → lent ≢ 0 → lent ≡ flag_byte lent f
-flag-lent lent f e z = rw (e, ne_eqb lent 0 z)
-
 flag-back : (lent : ℕ) (f : Bool) → not (eqb (flag_byte lent f) 0) ≡ f
 flag-back lent false = refl
 flag-back lent true = go (eqb lent 0) refl
@@ -79,19 +61,6 @@ flag_same lent = go (eqb lent 0) refl
     go false e = rw e
 
 -- ---- the struct
-
-module _ (k : Kept) (b : Book) (f : ℕ) (flag : f ≡ flag_byte k.refuted b.refuted) (r : Kept) where
-  pub kept-formula : b.stage ≡ Formula → r ≡ kept_with b 0 k.number k.place f → r ≡ kept_as k b
-  kept-formula e q = q ∙ ap (kept_with b 0 k.number k.place) flag ∙ ap (kept_at k b) (sym e)
-
-  pub kept-lines : b.stage ≡ Lines → r ≡ kept_with b 1 k.number k.place f → r ≡ kept_as k b
-  kept-lines e q = q ∙ ap (kept_with b 1 k.number k.place) flag ∙ ap (kept_at k b) (sym e)
-
-  pub kept-bound : (number place byte : ℕ) → b.stage ≡ Bound number place → byte ≡ bound_byte k.stage → r
-      ≡ kept_with b byte number place f
-      → r ≡ kept_as k b
-  kept-bound number place byte e p q =
-      q ∙ ap₂ (λ (u v : ℕ). kept_with b u number place v) p flag ∙ ap (kept_at k b) (sym e)
 
 -- LAW: what is kept stands for the book.
 pub kept_back : (k : Kept) (b : Book) → book_of (kept_as k b) ≡ b
@@ -121,11 +90,3 @@ kept_same k = go (eqb k.stage 0) (eqb k.stage 1) refl refl
       where
         two : 2 ≤ k.stage
         two = omega (arith, eqb-false k.stage 0 e, eqb-false k.stage 1 e')
-
--- ---- the opening
-
-pub opened-is : (number share : ℕ) (k r : Kept) → number ≡ 35 → r ≡ opened_kept share → r ≡ kept_opened number share k
-opened-is number share k r e q = rw (eq-eqb number 35 e) q
-
-pub unopened-is : (number share : ℕ) (k : Kept) → number ≢ 35 → k ≡ kept_opened number share k
-unopened-is number share k n = rw (ne_eqb number 35 n)

@@ -52,13 +52,11 @@ pub struct Opening {
 fn stage_of(stage: u8, number: u8, place: usize) -> Stage
     ensures { result ≡ stage_of stage number place }
 {
-    if stage == 0 {
-        return Stage::Formula;
+    match stage {
+        0 => Stage::Formula,
+        1 => Stage::Lines,
+        _ => Stage::Bound { number, place },
     }
-    if stage == 1 {
-        return Stage::Lines;
-    }
-    Stage::Bound { number, place }
 }
 
 // The book that is kept so.
@@ -82,23 +80,14 @@ pub fn book_of(k: Kept) -> Book
 fn bound_byte(lent: u8) -> u8
     ensures { result ≡ bound_byte lent }
 {
-    if lent < 2 {
-        return 2;
-    }
-    lent
+    lent.max(2)
 }
 
 // The byte of `refuted`: as it was lent where it says so.
 fn flag_byte(lent: u8, refuted: bool) -> u8
     ensures { result ≡ flag_byte lent refuted }
 {
-    if refuted {
-        if lent == 0 {
-            return 1;
-        }
-        return lent;
-    }
-    0
+    if refuted { lent.max(1) } else { 0 }
 }
 
 // The book's numbers with these bytes of its stage and of `refuted`.
@@ -125,8 +114,7 @@ pub fn kept_as(k: Kept, b: Book) -> Kept
     ensures { result ≡ kept_as k b }
 {
     let refuted = flag_byte(k.refuted, b.refuted);
-    let stage = b.stage;
-    match stage {
+    match b.stage {
         Stage::Formula => kept_with(b, 0, k.number, k.place, refuted),
         Stage::Lines => kept_with(b, 1, k.number, k.place, refuted),
         Stage::Bound { number, place } => kept_with(b, bound_byte(k.stage), number, place, refuted),
@@ -156,8 +144,5 @@ fn opened_kept(share: usize) -> Kept
 pub fn kept_opened(number: u8, share: usize, k: Kept) -> Kept
     ensures { result ≡ kept_opened number share k }
 {
-    if number == 35 {
-        return opened_kept(share);
-    }
-    k
+    if number == 35 { opened_kept(share) } else { k }
 }
