@@ -33,12 +33,9 @@ use Rattle.records.specs.declared.Record.TheVariants.{NoRecord}
 use Rattle.records.specs.Records.{record_at, length_of, number_of}
 use Rattle.records.proofs.Laws.{record-takes, record-within}
 use Rattle.small.specs.declared.State.{State}
-use Rattle.std.proofs.Common.{Result, Ok, Err}
 use Rattle.small.specs.Stops.{stop_at}
 use Rattle.small.specs.declared.Stop.{Stop}
 use Rattle.small.specs.declared.SmallChecked.{SmallChecked}
-use Rattle.small.specs.declared.Start.{Start}
-use Rattle.small.specs.declared.Start.TheVariants.{Begun, Refused}
 use Rattle.small_verdict.specs.Small.{six_only, small, small_fits, small_call}
 use Rattle.small_verdict.specs.Agrees.{Said, said}
 use Rattle.small.specs.WordSteps.{WordState, WordStep, onward, halt, words_begun, word_node, word_witness, word_line, word_strike, word_set}
@@ -376,16 +373,16 @@ module _ (n made : ℕ) (members struck scratch : List ℕ) (narrow : n ≤ 6) (
         refuted = false;
       }) marks
 
-pub begun-said : (n : ℕ) (proof : List ℕ) (members : List ℕ) (x : Start) (whole : Said) → whole ≡ said_from n proof members x → (made : ℕ) →
-    x ≡ Begun made
+pub begun-said : (n : ℕ) (proof : List ℕ) (members : List ℕ) (x : Result ℕ Refusal) (whole : Said) → whole ≡ said_from n proof members x → (made : ℕ) →
+    x ≡ Ok made
     → whole ≡ word_records (suc (length proof)) n proof (words_begun (take made members)) 0
 begun-said n proof members x whole e made is = e ∙ ap (said_from n proof members) is
 
-pub refused-said : (n : ℕ) (proof : List ℕ) (members : List ℕ) (x : Start) (whole : Said) → whole ≡ said_from n proof members x →
-    (number place : ℕ) → x ≡ Refused number place → whole ≡ formula_refused number place
-refused-said n proof members x whole e number place is = e ∙ ap (said_from n proof members) is
+pub refused-said : (n : ℕ) (proof : List ℕ) (members : List ℕ) (x : Result ℕ Refusal) (whole : Said) → whole ≡ said_from n proof members x →
+    (r : Refusal) → x ≡ Err r → whole ≡ formula_refused r.number r.place
+refused-said n proof members x whole e r is = e ∙ ap (said_from n proof members) is
 
-pub begins-few : (x : Start) (made : ℕ) → x ≡ Begun made → Begins x → made ≤ 1024
+pub begins-few : (x : Result ℕ Refusal) (made : ℕ) → x ≡ Ok made → Begins x → made ≤ 1024
 begins-few x made e B = subst Begins e B
 
 -- what the call says and leaves

@@ -8,8 +8,7 @@ use Rattle.records.specs.declared.Rule.TheVariants.{Rup, Pr, Path}
 use Rattle.truth.specs.Tables.{ones, by_literals}
 use Rattle.small.specs.declared.State.{State}
 use Rattle.small.specs.declared.Stop.{Stop}
-use Rattle.small.specs.declared.Start.{Start}
-use Rattle.small.specs.declared.Start.TheVariants as start
+use Rattle.dimacs.specs.declared.Refusal.{Refusal}
 use Rattle.small.specs.declared.SmallChecked.{SmallChecked}
 use Rattle.small_verdict.specs.Agrees.{Said}
 use Rattle.small.specs.WordSteps.{WordState, WordStep, onward, halt, with_word, words_begun, line_of, word_judged, word_line}
@@ -70,13 +69,13 @@ abbrev pub said_of : SmallChecked → Said
 said_of r = record { number = r.number; in_proof = r.in_proof; place = r.place; lines = r.lines; rounds = r.rounds }
 
 -- What is left to be said once the formula is read.
-abbrev pub said_from : ℕ → List ℕ → List ℕ → Start → Said
-said_from n proof members (start.Begun made) = word_records (suc (length proof)) n proof (words_begun (take made members)) 0
-said_from n proof members (start.Refused number place) = formula_refused number place
+abbrev pub said_from : ℕ → List ℕ → List ℕ → Result ℕ Refusal → Said
+said_from n proof members (Ok made) = word_records (suc (length proof)) n proof (words_begun (take made members)) 0
+said_from n proof members (Err r) = formula_refused r.number r.place
 
-abbrev pub Begins : Start → Type 0
-Begins (start.Begun made) = made ≤ 1024
-Begins (start.Refused number place) = Unit {0}
+abbrev pub Begins : Result ℕ Refusal → Type 0
+Begins (Ok made) = made ≤ 1024
+Begins (Err r) = Unit {0}
 
 -- A word that is made has a place among the entries.
 abbrev pub EntryFits : ℕ → Result ℕ ℕ → Type 0

@@ -8,7 +8,7 @@ ghost use Rattle.small.specs.WordSteps.{word_clauses, word_verdict};
 ghost use Rattle.small.specs.Checked.{small_outcome};
 ghost use Rattle.small.specs.Lent.{said_of};
 
-use crate::{SmallChecked, Start, State};
+use crate::{SmallChecked, State};
 use dimacs::{Header, Refusal};
 use words::Literals;
 
@@ -51,14 +51,14 @@ fn run_clauses<'a>(
 {
     struck.fill(0);
     match crate::formula::read_clauses(members, formula, variables, wanted, from) {
-        Start::Refused { number, place } => SmallChecked {
-            number,
+        Err(refusal) => SmallChecked {
+            number: refusal.number,
             in_proof: false,
-            place,
+            place: refusal.place,
             lines: 0,
             rounds: 0,
         },
-        Start::Begun(made) => {
+        Ok(made) => {
             let first = State {
                 members: made,
                 entries: 0,

@@ -41,13 +41,6 @@ impl From<u8> for Stop {
     }
 }
 
-// How the formula ends: so many members, or a number and a place.
-#[derive(Clone, Copy)]
-pub enum Start {
-    Begun(usize),
-    Refused { number: u8, place: usize },
-}
-
 // The answer: 01's number, whether its place is in the proof (else in the formula), the place, the accepted lines and their rounds.
 #[repr(C)]
 #[derive(Clone, Copy)]
