@@ -3,7 +3,7 @@
 // count.
 #![tactic(auto)]
 
-ghost use Rattle.std.specs.Prelude.{◌≤◌};
+pub mod print;
 
 use session::Checked;
 use single::Evaluated;
@@ -11,42 +11,45 @@ use single::call::Single;
 use std::io;
 
 // The line but for its end.
-pub fn print_said(rt: &impl Print, label: &str, r: Checked) -> io::Result<()> {
-    print!(rt;
-        "{label} {} {} {} {} {} {}",
-        r.number, r.place, r.lines, r.rounds, r.count, r.peak
-    )
+pub fn print_said(rt: &impl Print, label: &[u8], r: Checked) -> io::Result<()> {
+    print::label(rt, label)?;
+    print::number(rt, r.number as u64)?;
+    print::number(rt, r.place as u64)?;
+    print::number(rt, r.lines as u64)?;
+    print::number(rt, r.rounds)?;
+    print::number(rt, r.count as u64)?;
+    print::number(rt, r.peak as u64)
 }
 
-pub fn print_single(rt: &impl Print, label: &str, r: Single) -> io::Result<()> {
-    println!(rt; "{label} {} {} {}", r.number, r.node.0, r.count)
+pub fn print_single(rt: &impl Print, label: &[u8], r: Single) -> io::Result<()> {
+    let node = r.node;
+    print::label(rt, label)?;
+    print::number(rt, r.number as u64)?;
+    print::number(rt, node.0 as u64)?;
+    print::number(rt, r.count as u64)?;
+    print::end(rt)
 }
 
-pub fn print_evaluated(rt: &impl Print, label: &str, r: Evaluated) -> io::Result<()> {
-    println!(rt; "{label} {} {} {}", r.number, u8::from(r.yes), r.count)
-}
-
-// A label and a list of numbers.
-pub fn print_numbers(rt: &impl Print, label: &str, list: &[u16]) -> io::Result<()> {
-    print!(rt; "{label}")?;
-    for n in list {
-        print!(rt; " {n}")?;
-    }
-    println!(rt)
+pub fn print_evaluated(rt: &impl Print, label: &[u8], r: Evaluated) -> io::Result<()> {
+    print::label(rt, label)?;
+    print::number(rt, r.number as u64)?;
+    print::number(rt, r.yes as u64)?;
+    print::number(rt, r.count as u64)?;
+    print::end(rt)
 }
 
 // The line of a check but for its end. The count lent is 9, which only number 7 hands back.
-pub fn say_in(
+pub fn say_in<'a>(
     rt: &impl Print,
-    label: &str,
+    label: &[u8],
     vars: &mut [u8],
     lows: &mut [u16],
     highs: &mut [u16],
     heads: &mut [u16],
     links: &mut [u16],
     struck: &mut [u8],
-    formula: &[u8],
-    proof: &[u8],
+    formula: &'a [u8],
+    proof: &'a [u8],
 ) -> io::Result<()> {
     let mut members = [0u16; 2048];
     let mut scratch = [0u16; 4096];
@@ -66,16 +69,16 @@ pub fn say_in(
     print_said(rt, label, r)
 }
 
-pub fn run_in(
+pub fn run_in<'a>(
     rt: &impl Print,
-    label: &str,
+    label: &[u8],
     vars: &mut [u8],
     lows: &mut [u16],
     highs: &mut [u16],
     heads: &mut [u16],
     links: &mut [u16],
-    formula: &[u8],
-    proof: &[u8],
+    formula: &'a [u8],
+    proof: &'a [u8],
 ) -> io::Result<()> {
     let mut struck = [0u8; 2048];
     say_in(
@@ -90,29 +93,22 @@ pub fn run_in(
         formula,
         proof,
     )?;
-    println!(rt)
-}
-
-// The check with a table of so many places, whose index has so many heads.
-pub fn run_sized<const PLACES: usize, const HEADS: usize>(
-    rt: &impl Print,
-    label: &str,
-    formula: &[u8],
-    proof: &[u8],
-) -> io::Result<()>
-    requires { (PLACES ≤ 65536) × (HEADS ≤ 131072) }
-{
-    let mut vars = [0u8; PLACES];
-    let mut lows = [0u16; PLACES];
-    let mut highs = [0u16; PLACES];
-    let mut heads = [0u16; HEADS];
-    let mut links = [0u16; PLACES];
-    run_in(
-        rt, label, &mut vars, &mut lows, &mut highs, &mut heads, &mut links, formula, proof,
-    )
+    print::end(rt)
 }
 
 // The check with a table of 4,096 places.
-pub fn run(rt: &impl Print, label: &str, formula: &[u8], proof: &[u8]) -> io::Result<()> {
-    run_sized::<4096, 8192>(rt, label, formula, proof)
+pub fn run<'a>(
+    rt: &impl Print,
+    label: &[u8],
+    formula: &'a [u8],
+    proof: &'a [u8],
+) -> io::Result<()> {
+    let mut vars = [0u8; 4096];
+    let mut lows = [0u16; 4096];
+    let mut highs = [0u16; 4096];
+    let mut heads = [0u16; 8192];
+    let mut links = [0u16; 4096];
+    run_in(
+        rt, label, &mut vars, &mut lows, &mut highs, &mut heads, &mut links, formula, proof,
+    )
 }
