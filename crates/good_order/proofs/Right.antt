@@ -10,7 +10,7 @@ use lib.ListN.{length, get_or, take, drop}
 use lib.Seq.{ext_get_or, get_or-take, length-take-le}
 use lib.Dec.{ltb}
 use borrow.Author.Tests.{lt-ltb, le-ltb}
-use Rattle.table.specs.Nodes.{Node, blank, at, alike, all_blank, fits, good_places}
+use Rattle.table.specs.Nodes.{Node, blank, at, all_blank, fits, good_places}
 use Rattle.table.specs.Indexed.{Table, size}
 use Rattle.meaning.proofs.Booleans.{and_both}
 use Rattle.table.proofs.Order.{both_true, all-blank, Fits, fits-true, true-fits, GoodPlaces, good-places, in-good-places}

@@ -122,12 +122,10 @@ fn nodes_fit(
     ensures { let lent = table_of vars.now lows.now highs.now heads.now links.now count in
         Decides result (NodesFit lent count) }
 {
-    let mut k: usize = 2;
-    while k < count {
+    for k in 2..count {
         if !node_fits(vars, lows, highs, heads, links, count, k) {
             return false;
         }
-        k += 1;
     }
     true
 }
@@ -194,8 +192,7 @@ fn index_fits(
         Decides result (AllInChain lent count × HeadsFit lent) }
 {
     let mut first: usize = 0;
-    let mut k: usize = 2;
-    while k < count {
+    for k in 2..count {
         match reached(vars, lows, highs, heads, links, count, k) {
             Way::Head => {
                 first += 1;
@@ -205,7 +202,6 @@ fn index_fits(
                 return false;
             }
         }
-        k += 1;
     }
     first + zeros::zeros_of(heads) == heads.len()
 }

@@ -11,10 +11,8 @@ pub fn bytes_empty(bytes: &[u8], from: usize, to: usize) -> bool
     ensures { Decides result (Empty bytes.now from to) }
 {
     let mut all: u8 = 0;
-    let mut i = from;
-    while i < to {
-        all = all | bytes[i];
-        i += 1;
+    for i in from..to {
+        all |= bytes[i];
     }
     all == 0
 }
@@ -25,10 +23,8 @@ pub fn places_empty(column: &[u16], from: usize, to: usize) -> bool
     ensures { Decides result (Empty column.now from to) }
 {
     let mut all: u16 = 0;
-    let mut i = from;
-    while i < to {
-        all = all | column[i];
-        i += 1;
+    for i in from..to {
+        all |= column[i];
     }
     all == 0
 }
@@ -50,12 +46,10 @@ fn zeros_between(column: &[u16], from: usize, to: usize) -> u16
     ensures { zeros_in column.now from + result ≡ zeros_in column.now to }
 {
     let mut zeros: u16 = 0;
-    let mut i = from;
-    while i < to {
+    for i in from..to {
         if column[i] == 0 {
             zeros += 1;
         }
-        i += 1;
     }
     zeros
 }

@@ -42,14 +42,12 @@ pub fn live_members(members: &[u16], struck: &[u8], m: usize, live: &mut [u16]) 
     requires { (m ≤ length members.now) × (m ≤ length struck.now) × (m ≤ length live.old) }
     ensures { (result ≤ m) × (take result live.new ≡ unstruck (take m struck.now) (take m members.now)) }
 {
-    let mut i: usize = 0;
     let mut count: usize = 0;
-    while i < m {
+    for i in 0..m {
         if struck[i] == 0 {
             live[count] = members[i];
             count += 1;
         }
-        i += 1;
     }
     count
 }

@@ -27,12 +27,10 @@ fn lowest(members: &[u16], struck: &[u8], m: usize, g: NodeNo) -> usize
     requires { (m ≤ length members.now) × (m ≤ length struck.now) }
     ensures { Lowest members.now struck.now m g.0 result }
 {
-    let mut i: usize = 0;
-    while i < m {
+    for i in 0..m {
         if is_there(struck[i], members[i], g) {
             return i;
         }
-        i += 1;
     }
     m
 }

@@ -1,6 +1,6 @@
 -- `index_fits` tells whether each node is on the walk down its chain, behind no node like it, and each head 0 or a node of its chain.
 -- Assumes nothing.
-use Prim.Native.Nat.{ℕ, ◌-◌}
+use Prim.Native.Nat.{ℕ}
 use mathlib.Core.Path.{◌≡◌, ap, subst, ◌∙◌}
 use lib.ListN.{length}
 use native.Mathlib.Omega.{arith}

@@ -1,6 +1,6 @@
 -- `index_fits` tells whether each node is on the walk down its chain, behind no node like it, and each head 0 or a node of its chain.
 -- Assumes nothing.
-use Prim.Native.Nat.{◌≤◌, ◌-◌}
+use Prim.Native.Nat.{◌≤◌}
 use mathlib.Core.Path.{◌≡◌}
 use lib.ListN.{length}
 use Rattle.table.specs.Indexed.{table_of}
@@ -12,6 +12,3 @@ abbrev pub invariant-loop-k : goal.invariant-loop-k
 invariant-loop-k l =
     (2 ≤ l.k) × (l.k ≤ l.count) × AllInChain (table_of l.vars l.lows l.highs l.heads l.links l.count) l.k
     × (l.first ≡ many (own (table_of l.vars l.lows l.highs l.heads l.links l.count) l.k) (length l.heads))
-
-abbrev pub decreases-loop-k : goal.decreases-loop-k
-decreases-loop-k l = l.count - l.k

@@ -1,5 +1,4 @@
 -- `nodes_fit` tells whether all nodes and their links are as good order asks. Assumes nothing.
-use Prim.Native.Nat.{◌-◌}
 use native.Mathlib.Omega.{arith}
 use borrow.Author.Tests.{not-true, not-false}
 use Rattle.table.specs.Indexed.{table_of}

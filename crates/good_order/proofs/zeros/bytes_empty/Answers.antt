@@ -1,5 +1,4 @@
 -- The bytes are or-ed one after another. Assumes nothing.
-use Prim.Native.Nat.{◌-◌}
 use native.Mathlib.Omega.{arith}
 use Rattle.good_order.proofs.Gathered.{gathered_none, gathered_next, gathered-all}
 use Rattle.good_order.proofs.zeros.bytes_empty.Goals as goal

@@ -2,7 +2,7 @@
 use mathlib.Core.Path.{sym, subst}
 use Rattle.steps.proofs.strike.live_members.Goals.{then-struck-i-eq0, else-struck-i-eq0}
 use mathlib.Core.List.{List}
-use Prim.Native.Nat.{ℕ, ◌+◌, ◌-◌}
+use Prim.Native.Nat.{ℕ, ◌+◌}
 use Rattle.steps.proofs.Strikings.{Gathered, gathered_none, gathered-live, gathered-struck, gathered-all}
 use Rattle.steps.proofs.strike.live_members.Goals as goal
 

@@ -1,6 +1,5 @@
 -- `lowest` passes over the members that are not there. Assumes nothing.
 use mathlib.Core.Path.{sym, ◌∙◌}
-use Prim.Native.Nat.{◌-◌}
 use native.Mathlib.Omega.{arith}
 use Rattle.tries.proofs.Struck.{none_more, there-lowest, none-lowest}
 use Rattle.tries.proofs.strike.lowest.Goals as goal
