@@ -13,11 +13,9 @@ pub fn renumber(members: &mut [u16], own: &[u16], found: &[u16], m: usize)
     requires by_index { (i : ℕ) → i < m → get_or found.now i 0 < length own.now + 2 }
     ensures { take m members.new ≡ map (number_in own.now) (take m found.now) }
 {
-    let mut i: usize = 0;
-    while i < m {
+    for i in 0..m {
         let k = alone::number_in(own, found[i]);
         members[i] = k.0;
-        i += 1;
     }
 }
 
@@ -26,11 +24,7 @@ pub fn copy_marks(struck: &mut [u8], marks: &[u8], m: usize)
     requires { (m ≤ length struck.old) × (m ≤ length marks.now) }
     ensures { take m struck.new ≡ take m marks.now }
 {
-    let mut i: usize = 0;
-    while i < m {
-        struck[i] = marks[i];
-        i += 1;
-    }
+    struck[..m].copy_from_slice(&marks[..m]);
 }
 
 // Zeros from a place on.
@@ -38,11 +32,7 @@ pub fn zero_numbers_from(list: &mut [u16], from: usize)
     requires { from ≤ length list.old }
     ensures { list.new ≡ padded (take from list.old) (length list.old) }
 {
-    let mut i = from;
-    while i < list.len() {
-        list[i] = 0;
-        i += 1;
-    }
+    list[from..].fill(0);
 }
 
 // The same of marks.
@@ -50,11 +40,7 @@ pub fn zero_marks_from(list: &mut [u8], from: usize)
     requires { from ≤ length list.old }
     ensures { list.new ≡ padded (take from list.old) (length list.old) }
 {
-    let mut i = from;
-    while i < list.len() {
-        list[i] = 0;
-        i += 1;
-    }
+    list[from..].fill(0);
 }
 
 // An accepted call: the book's nodes put into the shared table, its members, marks and own nodes written back with zeros above; and the

@@ -1,5 +1,4 @@
 -- `adopt`: at the start of each turn what is to be placed is what is left to be placed (Adopting). Assumes nothing.
-use Prim.Native.Nat.{◌-◌}
 use native.Mathlib.Omega.{arith}
 use Rattle.alone.proofs.Adopting.{adopt-start, adopt-full, adopt-next, adopt-end}
 use Rattle.alone.proofs.adopt.Goals as goal

@@ -1,6 +1,4 @@
 -- `adopt`: at the start of each turn what is to be placed is what is left to be placed (Adopting). Assumes nothing.
-use Prim.Native.Nat.{◌-◌}
-use lib.ListN.{length}
 use Rattle.table.specs.Indexed.{table_of}
 use Rattle.alone.proofs.Adopting.{Adopting}
 use Rattle.alone.proofs.adopt.Given as goal
@@ -10,7 +8,3 @@ invariant-loop-i l =
     Adopting l.vars l.lows l.highs l.count (table_of l.initial.ownvars l.initial.ownlows l.initial.ownhighs l.initial.ownheads
     l.initial.ownlinks l.owncount) l.initial.known l.numbers l.i
     (table_of l.ownvars l.ownlows l.ownhighs l.ownheads l.ownlinks l.made) l.known
-
-abbrev pub decreases-loop-i : goal.decreases-loop-i
-decreases-loop-i l =
-    length l.numbers - l.i

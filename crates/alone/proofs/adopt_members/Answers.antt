@@ -1,5 +1,4 @@
 -- `adopt_members`: as `adopt`, and each number that was copied is found at its place (Adopting). Assumes nothing.
-use Prim.Native.Nat.{◌-◌}
 use mathlib.Core.Path.{refl, ◌∙◌}
 use native.Mathlib.Omega.{arith}
 use lib.ListN.{length-set}

@@ -1,5 +1,4 @@
 -- `adopt_members`: as `adopt`, and each number that was copied is found at its place (Adopting). Assumes nothing.
-use Prim.Native.Nat.{◌-◌}
 use mathlib.Core.Path.{◌≡◌}
 use lib.ListN.{length}
 use Rattle.table.specs.Indexed.{table_of, nodes_of}
@@ -16,7 +15,3 @@ invariant-loop-i l =
     × FoundAll (nodes_in l.vars l.lows l.highs l.count) (nodes_of (table_of l.ownvars l.ownlows l.ownhighs l.ownheads l.ownlinks l.made))
     l.numbers l.i l.initial.found l.found
     × (length l.found ≡ length l.initial.found)
-
-abbrev pub decreases-loop-i : goal.decreases-loop-i
-decreases-loop-i l =
-    length l.numbers - l.i

@@ -1,5 +1,4 @@
 -- `share`: at the start of each turn what is to be shared is what is left to be shared (Giving). Assumes nothing.
-use Prim.Native.Nat.{◌-◌}
 use native.Mathlib.Omega.{arith}
 use Rattle.alone.proofs.Giving.{give-start, give-end, low-has, high-has, place-has, give-next}
 use Rattle.alone.proofs.share.Goals as goal
@@ -54,14 +53,6 @@ pub bounds-own-j : goal.bounds-own-j
 bounds-own-j c =
     place-has _ _ _ _ _ _ c.requires _ _ _ c.loop-j.invariant
     c.loop-j-test.true
-
-pub overflow_add-j : goal.overflow_add-j
-overflow_add-j c =
-    omega (arith, c.loop-j-test.true, c.requires.readable)
-
-pub loop-j-smaller : goal.loop-j-smaller
-loop-j-smaller c =
-    omega (arith, c.loop-j-test.true)
 
 pub loop-j-preserved : goal.loop-j-preserved
 loop-j-preserved c =

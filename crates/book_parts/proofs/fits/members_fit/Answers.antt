@@ -1,5 +1,4 @@
 -- `members_fit`: at the loop's head what is to be said is what is left to be said (Fitting). Assumes nothing.
-use Prim.Native.Nat.{◌-◌}
 use native.Mathlib.Omega.{arith}
 use Rattle.book_parts.proofs.Fitting.{fitting-start, fitting-end, member-beyond, mark-beyond, fitting-next}
 use Rattle.book_parts.proofs.fits.members_fit.Goals as goal

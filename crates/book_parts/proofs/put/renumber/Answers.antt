@@ -1,5 +1,4 @@
 -- `renumber`: what is written so far is the front of the members' numbers (Writing). Assumes nothing.
-use Prim.Native.Nat.{◌-◌}
 use native.Mathlib.Omega.{arith}
 use Rattle.book_parts.proofs.Writing.{front-start, front-next, front-end}
 use Rattle.book_parts.proofs.put.renumber.Goals as goal
