@@ -71,7 +71,7 @@ fn clause_in(clause: DratClause, consequence: bool) -> DratClause
 }
 
 // The command to be judged, whose first byte is at `at`, within the profile or without it.
-fn admitted(command: Command, at: usize, consequence: bool) -> Result<Command, Refusal>
+fn let_in(command: Command, at: usize, consequence: bool) -> Result<Command, Refusal>
     ensures { result ≡ let_in consequence at command }
 {
     match command {
@@ -79,6 +79,16 @@ fn admitted(command: Command, at: usize, consequence: bool) -> Result<Command, R
         Command::Added(clause) => Ok(Command::Added(clause_in(clause, consequence))),
         Command::Struck(_) => Ok(command),
         Command::Finished => Ok(command),
+    }
+}
+
+// The same of what is read; a place is counted from the command's first byte, and a fault of form stays.
+pub fn admitted(command: Result<Command, Refusal>, consequence: bool) -> Result<Command, Refusal>
+    ensures { result ≡ admitted consequence command }
+{
+    match command {
+        Ok(read) => let_in(read, 0, consequence),
+        Err(refusal) => Err(refusal),
     }
 }
 
@@ -90,7 +100,7 @@ pub fn admitted_at(proof: &[u8], at: usize, variables: u8, mode: Mode) -> Result
 {
     let form = mode.form;
     let read = commands::command_at(proof, at, variables, form)?;
-    let command = admitted(read.command, at, mode.consequence)?;
+    let command = let_in(read.command, at, mode.consequence)?;
     Ok(Read {
         command,
         next: read.next,

@@ -129,12 +129,12 @@ module _ (mode : Mode) (n s : ℕ) (proof : List ℕ) (whole : check.Verdict) wh
           (read-ok at (command_at mode.form proof n at).next
           (admitted mode.consequence (command_of (command_at mode.form proof n at).command)) r is).1
 
-      pub going-asks : Held n l st × (marks ≡ unmarked (length l.vars)) × Roomy l.vars memo × PivotOfFits r.command
+      pub going-asks : Held n l st × (marks ≡ unmarked (length l.vars)) × Roomy l.vars memo × PivotOfFits (Ok r.command)
       going-asks = (
         G.held,
         G.none-marked ∙ ap unmarked (sym G.same_size),
         G.room,
-        pivot-fits mode.consequence n G.held.entries.narrow (command_in mode proof n at) fits r.command command-is,
+        subst PivotOfFits command-is (pivot-fits mode.consequence n G.held.entries.narrow (command_in mode proof n at) fits),
       )
 
       -- what the code's step says of its command it says of the definition's

@@ -76,7 +76,7 @@ pub fn read_commands(
             struck,
             state,
             variables,
-            read.command,
+            Ok(read.command),
         ) {
             Step::Stop { number, offset } => {
                 return Ended {

@@ -1,5 +1,6 @@
 -- What is asked of a command, as the definition reads it and as the code has it. No call open to others cites this file.
-use Rattle.std.specs.Prelude.{ℕ}
+use Rattle.std.specs.Prelude.{ℕ, Result, Ok, Err}
+use Rattle.dimacs.specs.declared.Refusal.{Refusal}
 use Rattle.commands.specs.declared.Command as code
 use Rattle.commands.specs.declared.Command.TheVariants.{Recorded, Added, Struck, Finished}
 use Rattle.commands.specs.Commands.{Command, recorded, added, struck_out, wrong, finished}
@@ -15,8 +16,9 @@ CommandFits n (wrong number offset) = Unit {0}
 CommandFits n finished = Unit {0}
 
 -- An added clause's pivot is a variable.
-abbrev pub PivotOfFits : code.Command → Type 0
-PivotOfFits (Recorded r more) = Unit {0}
-PivotOfFits (Added c) = PivotFits c.pivot
-PivotOfFits (Struck c) = Unit {0}
-PivotOfFits Finished = Unit {0}
+abbrev pub PivotOfFits : Result code.Command Refusal → Type 0
+PivotOfFits (Ok (Recorded r more)) = Unit {0}
+PivotOfFits (Ok (Added c)) = PivotFits c.pivot
+PivotOfFits (Ok (Struck c)) = Unit {0}
+PivotOfFits (Ok Finished) = Unit {0}
+PivotOfFits (Err r) = Unit {0}

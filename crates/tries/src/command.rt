@@ -1,5 +1,5 @@
 // The step of a command, whatever its form. (02, 4/14)
-ghost use Rattle.std.specs.Prelude.{◌≡◌, Bool, ℕ, length, Ok};
+ghost use Rattle.std.specs.Prelude.{◌≡◌, Bool, ℕ, length};
 ghost use Rattle.walks.specs.Readable.{Roomy};
 ghost use Rattle.conflict.specs.Marks.{unmarked};
 ghost use Rattle.commands.specs.Commands as read;
@@ -10,6 +10,7 @@ ghost use Rattle.profile.specs.Admitted.{admitted};
 ghost use Rattle.tries.specs.Commands.{CommandFits, PivotOfFits};
 
 use commands::Command;
+use dimacs::Refusal;
 use state::{State, Step};
 
 // The end of a text: 0 or 20.
@@ -28,9 +29,9 @@ fn finish_step(st: State) -> Step
     }
 }
 
-// The step that a command makes, as it is admitted within the consequence profile or without it. Table, index, member list, scratch list
-// and the members' marks (`struck`) are then the next state's; a refused command leaves table, index, member list and its marks as they
-// were. The working marks (`marks`) are clear again.
+// The step that a command makes, as it is admitted within the consequence profile or without it, or its fault of form, with the place
+// counted from the command's first byte. Table, index, member list, scratch list and the members' marks (`struck`) are then the next
+// state's; a refused command leaves table, index, member list and its marks as they were. The working marks (`marks`) are clear again.
 pub fn command_step(
     vars: &mut [u8],
     lows: &mut [u16],
@@ -44,7 +45,7 @@ pub fn command_step(
     struck: &mut [u8],
     st: State,
     variables: u8,
-    command: Command,
+    command: Result<Command, Refusal>,
 ) -> Step
     requires { let lent = lent_of vars.old lows.old highs.old heads.old links.old members.old scratch.old
         struck.old in
@@ -53,21 +54,25 @@ pub fn command_step(
         members.old scratch.old struck.old in
         let returned = lent_of vars.new lows.new highs.new heads.new links.new
         members.new scratch.new struck.new in
-        (profile : Bool) (c : read.Command) → admitted profile (command_of c) ≡ Ok command → CommandFits variables c →
+        (profile : Bool) (c : read.Command) → admitted profile (command_of c) ≡ command → CommandFits variables c →
         Stepped variables lent returned st (step profile variables (length vars.old) (state_of lent st) c) result }
     ensures marks_after { marks.new ≡ unmarked (length vars.old) }
 {
     match command {
-        Command::Recorded { record, more } => steps::record_step(
+        Ok(Command::Recorded { record, more }) => steps::record_step(
             vars, lows, highs, heads, links, memo, marks, members, scratch, struck, st, variables,
             more, record,
         ),
-        Command::Added(clause) => crate::clause_step(
+        Ok(Command::Added(clause)) => crate::clause_step(
             vars, lows, highs, heads, links, memo, marks, members, scratch, struck, st, clause,
         ),
-        Command::Struck(clause) => crate::strike_clause(
+        Ok(Command::Struck(clause)) => crate::strike_clause(
             vars, lows, highs, heads, links, members, struck, st, clause,
         ),
-        Command::Finished => finish_step(st),
+        Ok(Command::Finished) => finish_step(st),
+        Err(refusal) => Step::Stop {
+            number: refusal.number,
+            offset: refusal.place,
+        },
     }
 }

@@ -1,5 +1,5 @@
--- `admitted` lets a command in, by its kind. Assumes nothing.
-use Rattle.profile.proofs.admitted.Goals as goal
+-- `let_in` lets a command in, by its kind. Assumes nothing.
+use Rattle.profile.proofs.let_in.Goals as goal
 
 pub returns-in-Recorded : goal.returns-in-Recorded
 returns-in-Recorded c = rw c.in-Recorded.is c.record_in.ensures
