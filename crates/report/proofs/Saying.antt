@@ -2,11 +2,11 @@
 use mathlib.Core.Path.{◌≡◌, refl, sym, subst, ◌∙◌}
 use mathlib.Core.Bool.{Bool, true, false}
 use mathlib.Core.List.{List}
-use Prim.Native.Nat.{ℕ, ◌≤◌}
+use Prim.Native.Nat.{ℕ, ◌≤◌, ◌<◌}
 use native.Mathlib.Omega.{arith}
 use lib.ListN.{length}
 use lib.Dec.{ltb, eqb}
-use borrow.Author.Tests.{eqb-true}
+use borrow.Author.Tests.{lt-ltb, le-ltb, eqb-true}
 use Rattle.std.specs.Prelude.{Option, Some, None}
 use Rattle.std.specs.Option.{option_or}
 use Rattle.meaning.specs.Diagram.{Assignment}
@@ -42,6 +42,29 @@ checked mode formula proof = rw fits
 -- The refusal of the two files, if there is one.
 abbrev pub refusal_of : Bool → Bool → List ℕ → List ℕ → Option Line
 refusal_of f p formula proof = of_files some_refused f formula p proof None
+
+-- Case by case, whatever stands for a refusal and for what follows: 25 and 24 of the formula, then of the proof, each with its place.
+module _ {A : Type 0} (refuse : ℕ → ℕ → A) (rest : A) (f p : Bool) (formula proof : List ℕ) where
+  pub no-formula : f ≡ false → of_files refuse f formula p proof rest ≡ refuse 25 0
+  unfolding of_files
+  no-formula e = rw e
+
+  pub long-formula : f ≡ true → 65536 < length formula → of_files refuse f formula p proof rest ≡ refuse 24 65536
+  unfolding of_files
+  long-formula e h = rw (e, lt-ltb 65536 (length formula) h)
+
+  pub no_proof : f ≡ true → length formula ≤ 65536 → p ≡ false → of_files refuse f formula p proof rest ≡ refuse 25 0
+  unfolding of_files
+  no_proof e h e' = rw (e, le-ltb 65536 (length formula) h, e')
+
+  pub long-proof : f ≡ true → length formula ≤ 65536 → p ≡ true → 65536 < length proof
+      → of_files refuse f formula p proof rest ≡ refuse 24 65536
+  unfolding of_files
+  long-proof e h e' h' = rw (e, le-ltb 65536 (length formula) h, e', lt-ltb 65536 (length proof) h')
+
+  pub both : f ≡ true → length formula ≤ 65536 → p ≡ true → length proof ≤ 65536 → of_files refuse f formula p proof rest ≡ rest
+  unfolding of_files
+  both e h e' h' = rw (e, le-ltb 65536 (length formula) h, e', le-ltb 65536 (length proof) h')
 
 file-then : (f : Bool) (text : List ℕ) (rest : Option Line) →
     option_or (of_file some_refused f text None) rest ≡ of_file some_refused f text rest
