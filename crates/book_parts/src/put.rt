@@ -19,12 +19,14 @@ pub fn renumber(members: &mut [u16], own: &[u16], found: &[u16], m: usize)
     }
 }
 
-// The first m marks.
+// The first m marks. By a loop: `copy_from_slice` calls `memmove`, which the archive for C would newly need from outside.
 pub fn copy_marks(struck: &mut [u8], marks: &[u8], m: usize)
     requires { (m ≤ length struck.old) × (m ≤ length marks.now) }
     ensures { take m struck.new ≡ take m marks.now }
 {
-    struck[..m].copy_from_slice(&marks[..m]);
+    for i in 0..m {
+        struck[i] = marks[i];
+    }
 }
 
 // Zeros from a place on.
