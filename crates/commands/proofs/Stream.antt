@@ -48,11 +48,11 @@ module _ (s : List ℕ) (n at : ℕ) where
   unfolding text_read
   text-finished h = rw (le-ltb at (length s) h)
 
-  pub text-striking : (from : ℕ) (r : Result code_read.Read Refusal) → at < length s → is_word s at (100 ∷ []) ≡ true → from ≡ between s (at + 1)
+  pub text_striking : (from : ℕ) (r : Result code_read.Read Refusal) → at < length s → is_word s at (100 ∷ []) ≡ true → from ≡ between s (at + 1)
       → r ≡ read_of at (clause_read (between s) at (command_for true) (clause_from s n (length s - from) at from)) → r
       ≡ read_of at (text_read s n at)
   unfolding text_read
-  text-striking from r h w is e = rw (lt-ltb at (length s) h, w, sym is) e
+  text_striking from r h w is e = rw (lt-ltb at (length s) h, w, sym is) e
 
   pub text-adding : (r : Result code_read.Read Refusal) → at < length s → is_word s at (100 ∷ []) ≡ false
       → r ≡ read_of at (clause_read (between s) at (command_for false) (clause_from s n (length s - at) at at)) → r

@@ -32,6 +32,7 @@ fn clause_at(
 }
 
 // The command of a text whose first byte is at `at`. 100 is `d`.
+#[tactic(auto, using(crate::proofs::Stream::text_striking))]
 pub fn text_at(s: &[u8], at: usize, variables: u8) -> Result<Read, Refusal>
     requires { (at ≤ length s.now) × (variables ≤ 64) }
     ensures { result ≡ read_of at (text_read s.now variables at) }

@@ -1,13 +1,7 @@
 -- `text_at`: the end, a clause struck or a clause added, each by the law of that case. Assumes nothing.
 use mathlib.Core.Path.{sym, ◌∙◌}
-use Rattle.commands.proofs.Stream.{text-finished, text-striking, text-adding}
+use Rattle.commands.proofs.Stream.{text-finished, text-adding}
 use Rattle.commands.proofs.text.text_at.Goals as goal
-
-pub returns-then-is_letter : goal.returns-then-is_letter
-returns-then-is_letter c =
-    text-striking _ _ _ _ _ c.if-at-s.true
-    (sym c.is_letter.ensures ∙ c.if-is_letter.true)
-    c.skip_between-from.ensures.value c.clause_at.ensures
 
 pub returns-then-at-s : goal.returns-then-at-s
 returns-then-at-s c =
