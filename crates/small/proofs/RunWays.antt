@@ -287,13 +287,13 @@ module _ (members struck scratch : List ℕ) where
       (leb-true 2048 (length members) a, eqb-true (length struck) (length members) c, leb-true 4096 (length scratch) d)
 
 module _ (formula : List ℕ) where
-  pub header-wide : (h : code_header.Header) → Ok h ≡ header_read (header formula) → 6 < h.variables → (place : ℕ)
+  pub header_wide : (h : code_header.Header) → Ok h ≡ header_read (header formula) → 6 < h.variables → (place : ℕ)
       → place ≡ judged_from formula (length formula) 0 → Err (refusal_at 2 place) ≡ header_read (six_only formula (header formula))
-  header-wide h is more place p = rw (p, header-ok (header formula) h (sym is), lt-leb h.variables 6 more)
+  header_wide h is more place p = rw (p, header-ok (header formula) h (sym is), lt-leb h.variables 6 more)
 
-  pub header-narrow : (h : code_header.Header) → Ok h ≡ header_read (header formula) → h.variables ≤ 6
+  pub header_narrow : (h : code_header.Header) → Ok h ≡ header_read (header formula) → h.variables ≤ 6
       → Ok h ≡ header_read (six_only formula (header formula))
-  header-narrow h is most = rw (header-ok (header formula) h (sym is), le-leb h.variables 6 most)
+  header_narrow h is most = rw (header-ok (header formula) h (sym is), le-leb h.variables 6 most)
 
   pub header-improper : (r : Refusal) → Err r ≡ header_read (header formula) → Err r ≡ header_read (six_only formula (header formula))
   header-improper r is = rw (header-err (header formula) r (sym is))

@@ -21,6 +21,7 @@ fn lent_fits(members: &[u64], struck: &[u8], scratch: &[u64]) -> bool
 }
 
 // The header, with more than six variables refused.
+#[tactic(auto, using(crate::proofs::RunWays::header_wide, crate::proofs::RunWays::header_narrow))]
 fn read_header(formula: &[u8]) -> Result<Header, Refusal>
     ensures { result ≡ header_read (six_only formula.now (header formula.now)) }
 {
