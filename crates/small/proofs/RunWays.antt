@@ -2,7 +2,7 @@
 -- is to be said is what is left to be said. Assumes nothing.
 use mathlib.Core.Path.{◌≡◌, refl, sym, ap, ap₂, ◌∙◌, subst}
 use mathlib.Core.Bool.{Bool, true, false, ◌&&◌, cond}
-use mathlib.Core.List.{List, [], ◌∷◌, ◌++◌}
+use mathlib.Core.List.{List, [], ◌∷◌, ◌++◌, map}
 use Prim.Native.Nat.{ℕ, zero, suc, ◌+◌, ◌-◌, ◌≤◌, ◌<◌}
 use native.Mathlib.Omega.{arith}
 use lib.ListN.{length, set, take, replicate, length-set}
@@ -276,6 +276,10 @@ module _ (n wanted from : ℕ) (formula : List ℕ) where
           }
 
 -- ---- the call
+
+pub map-zero : (list : List ℕ) → map {B = ℕ} (λ x. 0) list ≡ replicate (length list) 0
+map-zero [] = refl
+map-zero (x ∷ list) = ap (λ (l : List ℕ). 0 ∷ l) (map-zero list)
 
 module _ (members struck scratch : List ℕ) where
   pub fits-sizes : small_fits members struck scratch ≡ true → (2048 ≤ length members) × (length struck ≡ length members) ×

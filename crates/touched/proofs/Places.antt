@@ -2,13 +2,13 @@
 -- is the next place. Assumes nothing.
 use mathlib.Core.Path.{◌≡◌, refl, sym, ap, ◌∙◌, subst}
 use mathlib.Core.Logic.{◌⊎◌, inl, inr}
-use mathlib.Core.List.{List, [], ◌∷◌, ◌++◌}
+use mathlib.Core.List.{List, [], ◌∷◌, ◌++◌, map}
 use Prim.Native.Nat.{ℕ, zero, suc, ◌+◌, ◌≤◌, ◌<◌}
 use native.Mathlib.Omega.{arith}
 use native.Mathlib.Numerals.{add-one}
 use native.Mathlib.Decide.{ℕ_discrete, dec_lt}
-use lib.ListN.{length, get_or, set, take, length-append, length-set, get_or-eq_default, get_or-append}
-use lib.Seq.{get_or-append_seam, take-suc-set}
+use lib.ListN.{length, get_or, set, take, length-append, length-set, length-map, get_or-eq_default, get_or-append, get_or-map}
+use lib.Seq.{get_or-append_seam, get_or-set_same, get_or-set_other, get_or-take, take-suc-set, length-take-le, ext_get_or}
 use Rattle.table.specs.Lists.{Inside}
 use Rattle.touched.specs.Places.{behind, AllBut, Untouched}
 
@@ -36,6 +36,14 @@ behind-append places more (suc k) p = ap suc (get_or-append places more 0 k (ome
 -- ---- one number more
 
 module _ (P : ℕ → Type 0) where
+  but-none : AllBut 0 [] P
+  but-none = record {
+    inside = λ k p. absurd (omega arith);
+    rising = λ k p. absurd (omega arith);
+    others =
+        λ k j p b q. absurd (omega arith);
+  }
+
   module _ (n : ℕ) (places : List ℕ) (A : AllBut n places P) where
     -- it is passed over
     pub but-passed : P n → AllBut (n + 1) places P
@@ -161,6 +169,9 @@ pub record Finding (words : List ℕ) (touching : ℕ) (places₀ places : List 
   pub found : AllBut i (take count places) (Untouched words touching)
 
 module _ (words : List ℕ) (touching : ℕ) (places₀ : List ℕ) where
+  pub finding-none : Finding words touching places₀ places₀ 0 0
+  finding-none = record { few = omega arith; within = omega arith; room = refl; found = but-none (Untouched words touching) }
+
   module _ (places : List ℕ) (i count : ℕ) (F : Finding words touching places₀ places i count) (more : i < length words) where
     pub finding-passed : Untouched words touching i → Finding words touching places₀ places (i + 1) count
     finding-passed u = record {
@@ -181,6 +192,12 @@ module _ (words : List ℕ) (touching : ℕ) (places₀ : List ℕ) where
           (but-added (Untouched words touching) i (take count places) F.found);
     }
 
+  pub finding-all : (places : List ℕ) (i count : ℕ) → Finding words touching places₀ places i count → length words ≤ i
+      → (count ≤ length words) × AllBut (length words) (take count places) (Untouched words touching)
+  finding-all places i count F h =
+      let e : i ≡ length words = omega (arith, F.within) in
+      (omega (arith, F.few, F.within), subst (λ (n : ℕ). AllBut n (take count places) (Untouched words touching)) e F.found)
+
 -- ---- the list's nodes at the places
 
 -- The first k nodes are those that the list has at the first k places.
@@ -188,3 +205,35 @@ pub record Filling (list places nodes₀ nodes : List ℕ) (k : ℕ) : Type 0 wh
   pub most : k ≤ length places
   pub room : length nodes ≡ length nodes₀
   pub filled : (j : ℕ) → j < k → get_or nodes j 0 ≡ get_or list (get_or places j 0) 0
+
+module _ (list places nodes₀ : List ℕ) where
+  pub filling-none : Filling list places nodes₀ nodes₀ 0
+  filling-none = record { most = omega arith; room = refl; filled = λ j p. absurd (omega arith) }
+
+  pub filling-next : (nodes : List ℕ) (k : ℕ) → Filling list places nodes₀ nodes k → k < length places → length places ≤ length nodes₀
+      → Filling list places nodes₀ (set nodes k (get_or list (get_or places k 0) 0)) (k + 1)
+  filling-next nodes k F p len = record {
+    most = omega arith;
+    room = length-set nodes k (get_or list (get_or places k 0) 0) ∙ F.room;
+    filled = λ j q. go j q (ℕ_discrete j k);
+  }
+    where
+      go : (j : ℕ) → j < k + 1 → Dec (j ≡ k) → get_or (set nodes k (get_or list (get_or places k 0) 0)) j 0
+          ≡ get_or list (get_or places j 0) 0
+      go j q (yes e) = rw e (get_or-set_same nodes k (get_or list (get_or places k 0) 0) 0 (omega (arith, F.room)))
+      go j q (no n) = get_or-set_other nodes k j (get_or list (get_or places k 0) 0) 0 n ∙ F.filled j (omega arith)
+
+  pub filling-all : (nodes : List ℕ) (k : ℕ) → Filling list places nodes₀ nodes k → length places ≤ k → length places ≤ length nodes₀
+      → take (length places) nodes ≡ map (λ i. get_or list i 0) places
+  filling-all nodes k F h fits =
+      ext_get_or 0 (take (length places) nodes) (map (λ i. get_or list i 0) places) (short ∙ sym (length-map places (λ i. get_or list i 0)))
+      (λ j q.
+      let inside : j < length places = omega (arith, q, short) in
+      get_or-take (length places) nodes j 0 inside
+      ∙ F.filled j (omega arith)
+      ∙ sym (get_or-map (λ i. get_or list i 0) places j 0)
+      ∙ get_or-inside (map (λ i. get_or list i 0) places) j (get_or list 0 0) 0
+      (omega (arith, inside, length-map places (λ i. get_or list i 0))))
+    where
+      short : length (take (length places) nodes) ≡ length places
+      short = length-take-le (length places) nodes (omega (arith, F.room))

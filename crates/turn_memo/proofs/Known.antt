@@ -1,11 +1,13 @@
 -- What is known of every turn stored, and of the members passed by it. The idea: a claim about nodes and rounds that holds of what is
 -- stored holds of what is stored next, and carries a count over the members that are passed. Assumes nothing.
 use mathlib.Core.Path.{◌≡◌, refl, sym, ◌∙◌, subst}
-use mathlib.Core.Logic.{⊎_elim}
+use mathlib.Core.Logic.{◌⊎◌, inl, inr, ⊎_elim}
 use mathlib.Core.List.{List}
-use Prim.Native.Nat.{ℕ, zero, suc, ◌+◌, ◌≤◌, ◌<◌}
+use Prim.Native.Nat.{ℕ, zero, suc, ◌+◌, ◌*◌, ◌≤◌, ◌<◌}
 use native.Mathlib.Omega.{arith}
-use lib.ListN.{length, get_or, replicate}
+use native.Mathlib.Decide.{ℕ_discrete}
+use lib.ListN.{length, get_or, set, replicate}
+use lib.Seq.{get_or-set_same, get_or-set_other}
 use Rattle.turn_memo.specs.Turns.{Holds, Stores, Passes, here, next}
 
 -- ---- what is known of all that is stored
@@ -22,6 +24,14 @@ zero-get_or (suc n) (suc c) = zero-get_or n c
 -- nothing is stored
 pub known-none : (n : ℕ) (P : ℕ → ℕ → Type 0) → Known (replicate n 0) P
 known-none n P f m h = let z = zero-get_or n h.cell in absurd (omega (arith, z, h.has))
+
+-- one turn more is stored
+pub set-stores : (turns : List ℕ) (c v f m : ℕ) → c < length turns → v ≡ f * 128 + suc m → Stores turns f m (set turns c v)
+set-stores turns c v f m p e d = go (ℕ_discrete d c)
+  where
+    go : Dec (d ≡ c) → (get_or (set turns c v) d 0 ≡ f * 128 + suc m) ⊎ (get_or (set turns c v) d 0 ≡ get_or turns d 0)
+    go (yes q) = inl (rw q (get_or-set_same turns c v 0 p ∙ e))
+    go (no n) = inr (get_or-set_other turns c d v 0 n)
 
 pub known-stored : (turns after : List ℕ) (P Q : ℕ → ℕ → Type 0) (f m : ℕ) → Known turns P → ((g k : ℕ) → P g k → Q g k) → Q f m → m ≤ 64
     → Stores turns f m after → Known after Q
